@@ -1,25 +1,31 @@
--- The changes between the locks of targets, target by target.
-use Rattle.std.proofs.Common.{◌≡◌, ◌≢◌, ◌++◌, ◌+◌, ◌<◌, ◌≤◌, ℕ, true, List, [], ◌∷◌, Contains, Less, length, take, drop, get_or, map, refl, sym, ap, ◌∙◌, subst, inl, inr, append-nil}
+-- The changes between targets, name by name.
+use Rattle.std.proofs.Common.{◌≡◌, ◌≢◌, ◌++◌, ◌+◌, ◌<◌, ◌≤◌, ℕ, true, false, List, [], ◌∷◌, Contains, Less, Option, Some, None, find, length, take, drop, get_or, map, refl, sym, ap, ◌∙◌, subst, inl, inr, append-nil, if◌then◌else◌}
+use Rattle.std.proofs.lemmas.Bool.{cases_Bool}
 use Rattle.std.proofs.lemmas.List.{take-append-drop, take_more, drop_more}
-use Rattle.std.proofs.lemmas.List.Elements.{AllZip-push, Contains-append_left, Contains-append_right, filter-append}
+use Rattle.std.proofs.lemmas.List.Elements.{Contains-append_left, Contains-append_right, filter-append}
+use Rattle.std.proofs.lemmas.Slice.Eq.{bytes_eq-Decides, slice_eq-Decides}
 use Rattle.std.specs.Cmp.Lexicographic.{slice_cmp}
-use Rattle.std.specs.List.{AllByRecursion, AllZip}
+use Rattle.std.specs.List.{AllByRecursion, list_any}
 use Rattle.std.specs.Ordering.{nat_cmp}
 use Rattle.std.specs.Str.{bytes_eq}
-use Rattle.lists.proofs.Members.{Contains-cons_cases, Contains-here, Contains-map_of, Contains-nil, Contains-there, map-append, take-whole}
-use Rattle.markers.specs.Environment.{marker_text}
-use Rattle.pylock.specs.Locks.{are_entries}
+use Rattle.lists.proofs.Members.{Contains-cons_cases, Contains-here, Contains-map_of, Contains-nil, take-whole}
+use Rattle.markers.specs.Environment.{Texts}
 use Rattle.pylock.specs.Order.{rises}
-use Rattle.changes.specs.Changes.{After, AreEntryChanges, ChangeParts, ChangesDigest, ChangesEntries, ChangesTarget, IsEntryChange, IsSameTarget, Splices, changes_on, rise_by_target}
-use Rattle.states.specs.State.{IsLockFor, IsState}
-use Rattle.states.specs.StateParts.{StateParts, digest_of}
-use Rattle.changes.specs.Tied.Between.{AreBetween, AreOf}
+use Rattle.changes.specs.Changes.{AreEntryChanges, AreTargetChanges, ChangesEntries, ChangesEnvironment, IsEntryChange, changes_on, entries_in, environment_in, rise_by_target, target_on}
+use Rattle.changes.specs.Tied.Between.{AreBetween, AreEntriesBetween, AreOf, is_same_environment, names_of, target_change, target_change_on}
+use Rattle.changes.specs.Tied.Retargeted.{on_names}
 use Rattle.changes.specs.declared.change.parts.EntryChange.{EntryChange}
+use Rattle.changes.specs.declared.change.parts.TargetChange.{TargetChange}
 use Rattle.states.specs.declared.target.Target.{Target}
+use Rattle.changes.proofs.ByName.{on-none, on_names-found, on_names-from, on_names-rise}
 use Rattle.changes.proofs.CutFacts.{below-other}
-use Rattle.states.proofs.PartFacts.{All-member}
+use Rattle.states.proofs.Among.{among-of, among-from}
+use Rattle.states.proofs.LawfulNames.{rises-from}
+use Rattle.states.proofs.NamesInOrder.{put-names, sorted-names}
+use Rattle.states.proofs.PartFacts.{All-member, All-of}
 use Rattle.states.proofs.EntryFacts.{rises-above, rises-rest}
-use Rattle.changes.proofs.TargetChanges.{on-none, on-other, on-own, rise-behind}
+use Rattle.changes.proofs.TargetChanges.{on-none as on-no_target, on-other, on-own, rise-behind}
+use Rattle.changes.proofs.TargetsByName.{none-changes}
 
 -- ---- names that rise
 
@@ -36,15 +42,11 @@ All-append : {X : Type 0} (P : X → Type 0) (xs ys : List X) → AllByRecursion
 All-append P [] ys all more = more
 All-append P (x ∷ xs) ys all more = (all.0, All-append P xs ys all.1 more)
 
-All-onto : {X : Type 0} (P Q : X → Type 0) (xs : List X) → ((x : X) → P x → Q x) → AllByRecursion P xs → AllByRecursion Q xs
-All-onto P Q [] f all = tt
-All-onto P Q (x ∷ xs) f all = (f x all.0, All-onto P Q xs f all.1)
+-- ---- the entries of one name more
 
--- ---- one target more
-
--- changes lead from the entries of a target's lock to those of another's
-abbrev LeadsOn : List EntryChange → Target → Target → Type 0
-LeadsOn changes s t = ChangesEntries (changes_on s.name changes) s.lock.entries t.lock.entries
+-- changes lead from the entries of the lock on a name to those of the other's
+abbrev LeadsOn : List Target → List Target → List EntryChange → List ℕ → Type 0
+LeadsOn old new changes name = ChangesEntries (changes_on name changes) (entries_in (target_on old name)) (entries_in (target_on new name))
 
 -- the changes of a target before another one stay those that were there
 on-before : (target other : List ℕ) (made own : List EntryChange) → AreOf other own → other ≢ target → changes_on target (made ++ own) ≡ changes_on target made
@@ -55,118 +57,181 @@ on-before target other made own all distinct =
 -- those of a target that comes first now are the new ones
 on-last : (target : List ℕ) (made own : List EntryChange) → AreOf target own → ((c : EntryChange) → Contains made c → slice_cmp nat_cmp c.target target ≡ Less) → changes_on target (made ++ own) ≡ own
 on-last target made own all below =
-    let none : changes_on target made ≡ [] = on-none target made (λ c there. below-other c.target target (below c there)) in
+    let none : changes_on target made ≡ [] = on-no_target target made (λ c there. below-other c.target target (below c there)) in
     filter-append (λ (c : EntryChange). bytes_eq target c.target) made own ∙ (λ i. none i ++ on-own target own all i)
 
-leads-before : (other : List ℕ) (olds news : List Target) (made own : List EntryChange) → AreOf other own → ((t : Target) → Contains olds t → slice_cmp nat_cmp t.name other ≡ Less)
-    → AllZip (LeadsOn made) olds news → AllZip (LeadsOn (made ++ own)) olds news
-leads-before other [] [] made own all below leads = tt
-leads-before other [] (t ∷ news) made own all below leads = absurd leads
-leads-before other (s ∷ olds) [] made own all below leads = absurd leads
-leads-before other (s ∷ olds) (t ∷ news) made own all below leads =
-    let distinct : other ≢ s.name = λ same. below-other s.name other (below s (Contains-here s olds)) (sym same) in (
-      subst (λ (l : List EntryChange). ChangesEntries l s.lock.entries t.lock.entries) (sym (on-before s.name other made own all distinct)) leads.0,
-      leads-before other olds news made own all (λ u there. below u (Contains-there s olds u there)) leads.1,
-    )
-
--- the names of targets with one more
-names-more : (olds : List Target) (s : Target) → map (λ t. t.name) (olds ++ s ∷ []) ≡ map (λ t. t.name) olds ++ s.name ∷ []
-names-more olds s = map-append (λ (t : Target). t.name) olds (s ∷ [])
-
-known-more : (olds : List Target) (s : Target) (made own : List EntryChange) → AllByRecursion (λ c. Contains (map (λ t. t.name) olds) c.target) made → AreOf s.name own
-    → AllByRecursion (λ c. Contains (map (λ t. t.name) (olds ++ s ∷ [])) c.target) (made ++ own)
-known-more olds s made own known all =
-    let front = map (λ (t : Target). t.name) olds in
-    subst (λ (names : List (List ℕ)). AllByRecursion (λ (c : EntryChange). Contains names c.target) (made ++ own)) (sym (names-more olds s))
-    (All-append (λ (c : EntryChange). Contains (front ++ s.name ∷ []) c.target) made own
-    (All-onto (λ (c : EntryChange). Contains front c.target) (λ (c : EntryChange). Contains (front ++ s.name ∷ []) c.target) made (λ c there. Contains-append_left front (s.name ∷ []) c.target there) known)
-    (All-onto (λ (c : EntryChange). c.target ≡ s.name) (λ (c : EntryChange). Contains (front ++ s.name ∷ []) c.target) own
-    (λ c is. subst (λ (n : List ℕ). Contains (front ++ s.name ∷ []) n) (sym is) (Contains-append_right front (s.name ∷ []) s.name (Contains-here s.name []))) all))
-
--- the changes of a target behind those of the targets before it
-between-more : (olds news : List Target) (s t : Target) (made own : List EntryChange) → ((u : Target) → Contains olds u → slice_cmp nat_cmp u.name s.name ≡ Less)
-    → ((name : List ℕ) → Contains (map (λ u. u.name) olds) name → slice_cmp nat_cmp name s.name ≡ Less)
-    → ChangesEntries own s.lock.entries t.lock.entries → AreEntryChanges own → AreOf s.name own → AreBetween olds news made → AreBetween (olds ++ s ∷ []) (news ++ t ∷ []) (made ++ own)
-between-more olds news s t made own below below_names leads minimal all are =
-    let before : (c : EntryChange) → Contains made c → slice_cmp nat_cmp c.target s.name ≡ Less =
-    λ c there. below_names c.target (All-member (λ (x : EntryChange). Contains (map (λ (u : Target). u.name) olds) x.target) made c are.known there) in
+-- the changes of a name behind those of the names before it
+between-more : (old new : List Target) (front : List (List ℕ)) (name : List ℕ) (made own : List EntryChange) → ((m : List ℕ) → Contains front m → slice_cmp nat_cmp m name ≡ Less)
+    → ChangesEntries own (entries_in (target_on old name)) (entries_in (target_on new name)) → AreEntryChanges own → AreOf name own → AreEntriesBetween old new front made
+    → AreEntriesBetween old new (front ++ name ∷ []) (made ++ own)
+between-more old new front name made own below leads minimal all are =
+    let before : (c : EntryChange) → Contains made c → slice_cmp nat_cmp c.target name ≡ Less =
+    λ c there. below c.target (All-member (λ (x : EntryChange). Contains front x.target) made c are.known there) in
     record {
       minimal = record {
-        rising = rise-behind s.name made own are.minimal.rising before all minimal.names;
+        rising = rise-behind name made own are.minimal.rising before all minimal.names;
         each = All-append IsEntryChange made own are.minimal.each minimal.each;
       };
-      leads = AllZip-push (LeadsOn (made ++ own)) olds news s t (leads-before s.name olds news made own all below are.leads)
-          (subst (λ (l : List EntryChange). ChangesEntries l s.lock.entries t.lock.entries) (sym (on-last s.name made own all before)) leads);
-      known = known-more olds s made own are.known all;
+      leads = All-append (LeadsOn old new (made ++ own)) front (name ∷ [])
+          (All-of (LeadsOn old new (made ++ own)) front (λ m there.
+          let distinct : name ≢ m = λ same. below-other m name (below m there) (sym same) in
+          subst (λ (l : List EntryChange). ChangesEntries l (entries_in (target_on old m)) (entries_in (target_on new m))) (sym (on-before m name made own all distinct))
+          (All-member (LeadsOn old new made) front m are.leads there)))
+          (subst (λ (l : List EntryChange). ChangesEntries l (entries_in (target_on old name)) (entries_in (target_on new name))) (sym (on-last name made own all before)) leads, tt);
+      known = All-append (λ (c : EntryChange). Contains (front ++ name ∷ []) c.target) made own
+          (All-of (λ (c : EntryChange). Contains (front ++ name ∷ []) c.target) made
+          (λ c there. Contains-append_left front (name ∷ []) c.target (All-member (λ (x : EntryChange). Contains front x.target) made c are.known there)))
+          (All-of (λ (c : EntryChange). Contains (front ++ name ∷ []) c.target) own
+          (λ c there. subst (λ (n : List ℕ). Contains (front ++ name ∷ []) n) (sym (All-member (λ (x : EntryChange). x.target ≡ name) own c all there))
+          (Contains-append_right front (name ∷ []) name (Contains-here name []))));
     }
 
 -- ---- as the loop has it
 
-between-none : AreBetween [] [] []
+between-none : (old new : List Target) → AreEntriesBetween old new [] []
 unfolding rise_by_target
-between-none = record { minimal = record { rising = refl; each = tt }; leads = tt; known = tt }
+between-none old new = record { minimal = record { rising = refl; each = tt }; leads = tt; known = tt }
 
-pub between-start : (old new : List Target) → AreBetween (take 0 old) (take 0 new) []
-between-start [] [] = between-none
-between-start [] (t ∷ new) = between-none
-between-start (s ∷ old) [] = between-none
-between-start (s ∷ old) (t ∷ new) = between-none
+pub between-start : (old new : List Target) (names : List (List ℕ)) → AreEntriesBetween old new (take 0 names) []
+between-start old new [] = between-none old new
+between-start old new (n ∷ names) = between-none old new
 
-cut-at : (xs : List Target) (place : ℕ) (x : Target) → place < length xs → x ≡ get_or xs place x → xs ≡ take place xs ++ x ∷ drop (place + 1) xs
-cut-at xs place x within is =
-    let here : drop place xs ≡ x ∷ drop (place + 1) xs = drop_more xs place x within ∙ ap (λ (y : Target). y ∷ drop (place + 1) xs) (sym is) in
-    sym (take-append-drop place xs) ∙ ap (λ (l : List Target). take place xs ++ l) here
+pub between-next : (old new : List Target) (names : List (List ℕ)) (place : ℕ) (name : List ℕ) (made own : List EntryChange) → rises names ≡ true → place < length names → name ≡ get_or names place name
+    → ChangesEntries own (entries_in (target_on old name)) (entries_in (target_on new name)) → AreEntryChanges own → AreOf name own
+    → AreEntriesBetween old new (take place names) made → AreEntriesBetween old new (take (place + 1) names) (made ++ own)
+between-next old new names place name made own rise within is leads minimal all are =
+    let front = take place names in
+    let here : drop place names ≡ name ∷ drop (place + 1) names = drop_more names place name within ∙ ap (λ (n : List ℕ). n ∷ drop (place + 1) names) (sym is) in
+    let cut : names ≡ front ++ name ∷ drop (place + 1) names = sym (take-append-drop place names) ∙ ap (λ (l : List (List ℕ)). front ++ l) here in
+    let below : (m : List ℕ) → Contains front m → slice_cmp nat_cmp m name ≡ Less =
+    λ m there. front-below front name (drop (place + 1) names) m (subst (λ (l : List (List ℕ)). rises l ≡ true) cut rise) there in
+    let one : take (place + 1) names ≡ front ++ name ∷ [] = take_more names place name within ∙ ap (λ (n : List ℕ). front ++ n ∷ []) (sym is) in
+    subst (λ (l : List (List ℕ)). AreEntriesBetween old new l (made ++ own)) (sym one) (between-more old new front name made own below leads minimal all are)
 
-one-more : (xs : List Target) (place : ℕ) (x : Target) → place < length xs → x ≡ get_or xs place x → take (place + 1) xs ≡ take place xs ++ x ∷ []
-one-more xs place x within is = take_more xs place x within ∙ ap (λ (y : Target). take place xs ++ y ∷ []) (sym is)
+pub between-done : (old new : List Target) (names : List (List ℕ)) (place : ℕ) (made : List EntryChange) → length names ≤ place → AreEntriesBetween old new (take place names) made
+    → AreEntriesBetween old new names made
+between-done old new names place made past are = subst (λ (l : List (List ℕ)). AreEntriesBetween old new l made) (take-whole names place past) are
 
-pub between-next : (old new : List Target) (place : ℕ) (s t : Target) (made own : List EntryChange) → rises (map (λ u. u.name) old) ≡ true → place < length old → place < length new
-    → s ≡ get_or old place s → t ≡ get_or new place t → ChangesEntries own s.lock.entries t.lock.entries → AreEntryChanges own → AreOf s.name own
-    → AreBetween (take place old) (take place new) made → AreBetween (take (place + 1) old) (take (place + 1) new) (made ++ own)
-between-next old new place s t made own rise within within_new is is_new leads minimal all are =
-    let front = map (λ (u : Target). u.name) (take place old) in
-    let cut : map (λ (u : Target). u.name) old ≡ front ++ s.name ∷ map (λ (u : Target). u.name) (drop (place + 1) old) =
-    ap (map (λ (u : Target). u.name)) (cut-at old place s within is) ∙ map-append (λ (u : Target). u.name) (take place old) (s ∷ drop (place + 1) old) in
-    let below : (name : List ℕ) → Contains front name → slice_cmp nat_cmp name s.name ≡ Less =
-    λ name there. front-below front s.name (map (λ (u : Target). u.name) (drop (place + 1) old)) name (subst (λ (names : List (List ℕ)). rises names ≡ true) cut rise) there in
-    let more = between-more (take place old) (take place new) s t made own (λ u there. below u.name (Contains-map_of (λ (v : Target). v.name) (take place old) u there)) below leads minimal all are in
-    subst (λ (l : List Target). AreBetween l (take (place + 1) new) (made ++ own)) (sym (one-more old place s within is))
-    (subst (λ (l : List Target). AreBetween (take place old ++ s ∷ []) l (made ++ own)) (sym (one-more new place t within_new is_new)) more)
+-- ---- environments
 
-pub between-done : (old new : List Target) (place : ℕ) (made : List EntryChange) → length old ≤ place → length new ≤ place → AreBetween (take place old) (take place new) made → AreBetween old new made
-between-done old new place made past past_new are =
-    subst (λ (l : List Target). AreBetween l new made) (take-whole old place past) (subst (λ (l : List Target). AreBetween (take place old) l made) (take-whole new place past_new) are)
+same-environment : (one other : Option Texts) → is_same_environment one other ≡ true → one ≡ other
+same-environment None None is = refl
+same-environment None (Some t) is = absurd (cc is)
+same-environment (Some s) None is = absurd (cc is)
+same-environment (Some s) (Some t) is = ap Some ((slice_eq-Decides bytes_eq-Decides s t _ refl).0 is)
 
--- ---- states
+pub is-same : (one other : Option Texts) → one ≡ other → is_same_environment one other ≡ true
+is-same None None same = refl
+is-same None (Some t) same = absurd (cc same)
+is-same (Some s) None same = absurd (cc same)
+is-same (Some s) (Some t) same = let texts : s ≡ t = cc same in (slice_eq-Decides bytes_eq-Decides s t _ refl).1 texts
 
--- what leads from the entries of all locks, and from their digest, leads from target to target
-targets-change : (change : ChangeParts) (lines more : List (List ℕ)) (before after : List ℕ) (olds news : List Target) → AllZip IsSameTarget olds news → AllZip (LeadsOn change.entries) olds news
-    → ChangesDigest change.digests before after → AllByRecursion (λ t. t.lock.snapshot ≡ before) olds → AllByRecursion (λ t. t.lock.snapshot ≡ after) news
-    → AllByRecursion (λ t. IsLockFor lines t.environment t.lock) olds → AllByRecursion (λ t. IsLockFor more t.environment t.lock) news → AllZip (ChangesTarget change) olds news
-targets-change change lines more before after [] [] same leads digest olds_at news_at locks locks_too = tt
-targets-change change lines more before after [] (t ∷ news) same leads digest olds_at news_at locks locks_too = absurd same
-targets-change change lines more before after (s ∷ olds) [] same leads digest olds_at news_at locks locks_too = absurd same
-targets-change change lines more before after (s ∷ olds) (t ∷ news) same leads digest olds_at news_at locks locks_too = (
-  record {
-    same = same.0;
-    lock = record {
-      entries = leads.0;
-      digest = subst (λ (d : List ℕ). ChangesDigest change.digests d t.lock.snapshot) (sym olds_at.0) (subst (ChangesDigest change.digests before) (sym news_at.0) digest);
-      environment = locks_too.0.named ∙ ap marker_text same.0.environment ∙ sym locks.0.named;
-    };
-  },
-  targets-change change lines more before after olds news same.1 leads.1 digest olds_at.1 news_at.1 locks.1 locks_too.1,
-)
+environment-changes : (name : List ℕ) (old new : Option Target) → ChangesEnvironment (target_change name old new) (environment_in old) (environment_in new)
+environment-changes name old new = elim (cases_Bool (is_same_environment (environment_in old) (environment_in new))) [
+  | inl same ↦ rw same (sym (same-environment (environment_in old) (environment_in new) same))
+  | inr other ↦ rw other (refl, refl)
+]
 
-pub After-between : (old new : StateParts) (change : ChangeParts) → IsState old → IsState new → AllZip IsSameTarget old.targets new.targets → Splices 0 change.splices old.lines new.lines
-    → AreBetween old.targets new.targets change.entries → ChangesDigest change.digests (digest_of old.targets) (digest_of new.targets) → After old change new
-After-between old new change is is_new same lines are digest = record {
-  lines = lines;
-  targets = targets-change change old.lines new.lines (digest_of old.targets) (digest_of new.targets) old.targets new.targets same are.leads digest is.digest is_new.digest is.locks is_new.locks;
-  known = are.known;
-}
+record IsChangeOn (name : List ℕ) (change : TargetChange) : Type 0 where
+  named : change.name ≡ name
+  other : change.old ≢ change.new
 
--- names of entries rise in all locks
-pub entries-rise : (lines : List (List ℕ)) (targets : List Target) → AllByRecursion (λ t. IsLockFor lines t.environment t.lock) targets → AllByRecursion (λ t. are_entries t.lock.entries ≡ true) targets
-entries-rise lines [] locks = tt
-entries-rise lines (t ∷ rest) locks = (locks.0.lawful.order, entries-rise lines rest locks.1)
+change-on : (name : List ℕ) (old new : Option Target) (c : TargetChange) → target_change name old new ≡ Some c → IsChangeOn name c
+change-on name old new c is = elim (cases_Bool (is_same_environment (environment_in old) (environment_in new))) [
+  | inl same ↦ absurd (cc (rw same at is))
+  | inr other ↦
+      let made : record { name = name; old = environment_in old; new = environment_in new } ≡ c = cc (rw other at is) in
+      record {
+        named = sym (ap (λ (d : TargetChange). d.name) made);
+        other = λ same.
+            let alike : environment_in old ≡ environment_in new = ap (λ (d : TargetChange). d.old) made ∙ same ∙ sym (ap (λ (d : TargetChange). d.new) made) in
+            let no : true ≡ false = sym (is-same (environment_in old) (environment_in new) alike) ∙ other in cc;
+      }
+]
+
+-- ---- all names
+
+names-rise : (old new : List Target) → rises (names_of old new) ≡ true
+names-rise old new =
+    let names = map (λ (t : Target). t.name) old ++ map (λ (t : Target). t.name) new in
+    rises-from (names_of old new) (sorted-names names)
+
+-- a name that isn't met has no target in either list
+unmet : (old new : List Target) (name : List ℕ) → list_any (bytes_eq name) (names_of old new) ≡ false
+    → Contains (map (λ (t : Target). t.name) old ++ map (λ (t : Target). t.name) new) name → ⊥
+unmet old new name none there =
+    let names = map (λ (t : Target). t.name) old ++ map (λ (t : Target). t.name) new in
+    let among : list_any (bytes_eq name) (names_of old new) ≡ true = among-of (names_of old new) name (put-names [] names name there) in
+    let no : true ≡ false = sym among ∙ none in cc
+
+no-old : (old new : List Target) (name : List ℕ) → list_any (bytes_eq name) (names_of old new) ≡ false → target_on old name ≡ None
+no-old old new name none =
+    let olds = map (λ (t : Target). t.name) old in
+    on-none (λ (t : Target). t.name) old name (λ t there same. unmet old new name none
+    (Contains-append_left olds (map (λ (u : Target). u.name) new) name (subst (Contains olds) same (Contains-map_of (λ (u : Target). u.name) old t there))))
+
+no-new : (old new : List Target) (name : List ℕ) → list_any (bytes_eq name) (names_of old new) ≡ false → target_on new name ≡ None
+no-new old new name none =
+    let news = map (λ (t : Target). t.name) new in
+    on-none (λ (t : Target). t.name) new name (λ t there same. unmet old new name none
+    (Contains-append_right (map (λ (u : Target). u.name) old) news name (subst (Contains news) same (Contains-map_of (λ (u : Target). u.name) new t there))))
+
+leads-all : (old new : List Target) (entries : List EntryChange) → AreEntriesBetween old new (names_of old new) entries → (name : List ℕ) → LeadsOn old new entries name
+leads-all old new entries are name = elim (cases_Bool (list_any (bytes_eq name) (names_of old new))) [
+  | inl among ↦ All-member (LeadsOn old new entries) (names_of old new) name are.leads (among-from (names_of old new) name among)
+  | inr none ↦
+      let still : changes_on name entries ≡ [] = on-no_target name entries (λ c there same.
+      let among = among-of (names_of old new) name (subst (Contains (names_of old new)) same (All-member (λ (x : EntryChange). Contains (names_of old new) x.target) entries c are.known there)) in
+      let no : true ≡ false = sym among ∙ none in cc) in
+      subst (λ (o : Option Target). ChangesEntries (changes_on name entries) (entries_in o) (entries_in (target_on new name))) (sym (no-old old new name none))
+      (subst (λ (o : Option Target). ChangesEntries (changes_on name entries) [] (entries_in o)) (sym (no-new old new name none)) (none-changes (changes_on name entries) still))
+]
+
+environments-all : (old new : List Target) (name : List ℕ)
+    → ChangesEnvironment (if list_any (bytes_eq name) (names_of old new) then target_change_on old new name else None) (environment_in (target_on old name)) (environment_in (target_on new name))
+environments-all old new name = elim (cases_Bool (list_any (bytes_eq name) (names_of old new))) [
+  | inl among ↦ rw among (environment-changes name (target_on old name) (target_on new name))
+  | inr none ↦ rw none (ap environment_in (no-new old new name none) ∙ sym (ap environment_in (no-old old new name none)))
+]
+
+-- what was made name by name leads from all targets to all others
+pub between-all : (old new : List Target) (targets : List TargetChange) (entries : List EntryChange) → targets ≡ on_names (target_change_on old new) (names_of old new)
+    → AreEntriesBetween old new (names_of old new) entries → AreBetween old new targets entries
+between-all old new targets entries made are =
+    let f = target_change_on old new in
+    let names = names_of old new in
+    let on = λ (name : List ℕ) (c : TargetChange) (is : f name ≡ Some c). (change-on name (target_on old name) (target_on new name) c is).named in
+    record {
+      targets_minimal = subst AreTargetChanges (sym made) (record {
+        rising = on_names-rise (λ (c : TargetChange). c.name) f on names (names-rise old new);
+        each = All-of (λ (c : TargetChange). c.old ≢ c.new) (on_names f names)
+            (λ c there. let from = on_names-from f names c there in (change-on from.0 (target_on old from.0) (target_on new from.0) c from.2).other);
+      });
+      entries_minimal = are.minimal;
+      environments = λ name.
+          let found : find (λ (c : TargetChange). bytes_eq name c.name) targets ≡ (if list_any (bytes_eq name) names then f name else None) =
+          ap (λ (l : List TargetChange). find (λ (c : TargetChange). bytes_eq name c.name) l) made ∙ on_names-found (λ (c : TargetChange). c.name) f on names name in
+          subst (λ (c : Option TargetChange). ChangesEnvironment c (environment_in (target_on old name)) (environment_in (target_on new name))) (sym found) (environments-all old new name);
+      leads = leads-all old new entries are;
+      known = are.known;
+    }
+
+-- ---- one change, as it is made
+
+other-environment : (one other : Option Texts) → (one ≡ other → ⊥) → is_same_environment one other ≡ false
+other-environment one other differ = elim (cases_Bool (is_same_environment one other)) [
+  | inl same ↦ absurd (differ (same-environment one other same))
+  | inr differs ↦ differs
+]
+
+pub change-made : (name : List ℕ) (old new : Option Target) (one other : Option Texts) → one ≡ environment_in old → other ≡ environment_in new → (one ≡ other → ⊥)
+    → Some (record { name = name; old = one; new = other }) ≡ target_change name old new
+change-made name old new one other is is_new differ =
+    let test : is_same_environment (environment_in old) (environment_in new) ≡ false =
+    other-environment (environment_in old) (environment_in new) (λ same. differ (is ∙ same ∙ sym is_new)) in
+    rw test (λ i. Some (record { name = name; old = is i; new = is_new i }))
+
+pub change-none : (name : List ℕ) (old new : Option Target) (one other : Option Texts) → one ≡ environment_in old → other ≡ environment_in new → one ≡ other → None ≡ target_change name old new
+change-none name old new one other is is_new same =
+    let test : is_same_environment (environment_in old) (environment_in new) ≡ true = is-same (environment_in old) (environment_in new) (sym is ∙ same ∙ is_new) in
+    rw test refl

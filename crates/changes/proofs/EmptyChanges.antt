@@ -1,28 +1,31 @@
 -- The change between two states is empty exactly where they are the same.
-use Rattle.std.proofs.Common.{◌≡◌, ◌≢◌, ◌++◌, ◌+◌, ◌≤◌, ℕ, true, List, [], ◌∷◌, Contains, Option, Some, None, length, take, map, refl, sym, ap, ◌∙◌, subst, inl, inr, arith}
+use Rattle.std.proofs.Common.{◌≡◌, ◌≢◌, ◌++◌, ◌+◌, ◌≤◌, ℕ, true, List, [], ◌∷◌, Contains, Option, Some, None, length, take, find, refl, sym, ap, ◌∙◌, subst, arith}
 use Rattle.std.proofs.Math.Seq.{take-append_seam}
 use Rattle.std.proofs.lemmas.List.{length-append}
 use Rattle.std.proofs.lemmas.Slice.Eq.{bytes_eq-Decides}
 use Rattle.std.specs.List.{AllByRecursion, AllZip}
 use Rattle.std.specs.Prelude.{◌↔◌, IfSome, slice_get}
 use Rattle.std.specs.Str.{bytes_eq}
-use Rattle.lists.proofs.Members.{Contains-cons_cases, Contains-filter_of, Contains-here, Contains-map, Contains-nil}
-use Rattle.states.specs.StateParts.{StateParts}
+use Rattle.lists.proofs.Members.{Contains-filter_of, Contains-here, Contains-nil}
+use Rattle.states.specs.StateParts.{StateParts, digest_of}
 use Rattle.states.specs.declared.target.Target.{Target}
-use Rattle.changes.specs.Changes.{After, AreSplices, ChangeParts, ChangesDigest, ChangesTarget, IsEmpty, IsEntryChange, IsMinimal, Splices}
+use Rattle.changes.specs.Changes.{After, AreSplices, AreTargetChanges, ChangeParts, ChangesDigest, ChangesEnvironment, ChangesTarget, ChangesTargets, IsEmpty, IsEntryChange, IsMinimal, Splices, environment_in, target_on}
 use Rattle.changes.specs.declared.change.parts.DigestChange.{DigestChange}
 use Rattle.changes.specs.declared.change.parts.EntryChange.{EntryChange}
 use Rattle.changes.specs.declared.change.parts.Splice.{Splice}
+use Rattle.changes.specs.declared.change.parts.TargetChange.{TargetChange}
+use Rattle.changes.proofs.ByName.{on-there}
 use Rattle.changes.proofs.OneOutcome.{After-one}
 use Rattle.changes.proofs.SplicedFacts.{parts_of}
+use Rattle.changes.proofs.TargetsByName.{digest-on, entries-on, environment-on}
 
 -- ---- an empty change leads nowhere else
 
 abbrev nothing : ChangeParts
-nothing = record { splices = []; entries = []; digests = None }
+nothing = record { splices = []; targets = []; entries = []; digests = None }
 
 is-nothing : (change : ChangeParts) → IsEmpty change → change ≡ nothing
-is-nothing change empty = λ i. record { splices = empty.splices i; entries = empty.entries i; digests = empty.digests i }
+is-nothing change empty = λ i. record { splices = empty.splices i; targets = empty.targets i; entries = empty.entries i; digests = empty.digests i }
 
 -- it leads from a target to that target
 stays : (s t : Target) → ChangesTarget nothing s t → ChangesTarget nothing s s
@@ -46,7 +49,7 @@ all-stay (s ∷ old) [] all = absurd all
 all-stay (s ∷ old) (t ∷ new) all = (stays s t all.0, all-stay old new all.1)
 
 same-of : (old new : StateParts) → After old nothing new → old ≡ new
-same-of old new after = After-one nothing old old new (record { lines = refl; targets = all-stay old.targets new.targets after.targets; known = tt }) after
+same-of old new after = After-one nothing old old new (record { lines = refl; targets = record { each = all-stay old.targets new.targets after.targets.each; known = tt } }) after
 
 -- ---- a change that leads back to where it began is empty
 
@@ -68,32 +71,27 @@ no-splices (s ∷ []) lines are one leads =
     absurd (are.exchanges.0.first (ap (λ (l : List (List ℕ)). slice_get l 0) same))
 no-splices (s ∷ t ∷ rest) lines are one leads = absurd (omega (arith, one))
 
-zip-itself : {X : Type 0} (R : X → X → Type 0) (xs : List X) (x : X) → AllZip R xs xs → Contains xs x → R x x
-zip-itself R [] x all there = absurd (Contains-nil x there)
-zip-itself R (y ∷ ys) x all there = elim (Contains-cons_cases y ys x there) [
-  | inl same ↦ subst (λ z. R z z) same all.0
-  | inr more ↦ zip-itself R ys x all.1 more
-]
-
-no-entries : (change : ChangeParts) (targets : List Target) (entries : List EntryChange) → entries ≡ change.entries → AllByRecursion IsEntryChange entries
-    → AllByRecursion (λ c. Contains (map (λ t. t.name) targets) c.target) entries → AllZip (ChangesTarget change) targets targets → entries ≡ []
-no-entries change targets [] is each known all = refl
-no-entries change targets (c ∷ rest) is each known all =
-    let found = Contains-map (λ (t : Target). t.name) targets c.target known.0 in
-    let target = found.0 in
-    let leads = zip-itself (ChangesTarget change) targets target all found.1 in
-    let own : bytes_eq target.name c.target ≡ true = (bytes_eq-Decides target.name c.target).1 found.2 in
+no-entries : (change : ChangeParts) (olds : List Target) (entries : List EntryChange) → entries ≡ change.entries → AllByRecursion IsEntryChange entries → ChangesTargets change.targets change olds olds → entries ≡ []
+no-entries change olds [] is each leads = refl
+no-entries change olds (c ∷ rest) is each leads =
+    let own : bytes_eq c.target c.target ≡ true = (bytes_eq-Decides c.target c.target).1 refl in
     let there : Contains change.entries c = subst (λ (l : List EntryChange). Contains l c) is (Contains-here c rest) in
-    let exchanged = leads.lock.entries.changed c (Contains-filter_of (λ (d : EntryChange). bytes_eq target.name d.target) change.entries c there own) in
+    let exchanged = (entries-on change.targets change olds olds c.target leads).changed c (Contains-filter_of (λ (d : EntryChange). bytes_eq c.target d.target) change.entries c there own) in
     absurd (each.0.other (sym exchanged.0 ∙ exchanged.1))
+
+no-targets : (change : ChangeParts) (olds : List Target) (targets : List TargetChange) → targets ≡ change.targets → AreTargetChanges targets → ChangesTargets change.targets change olds olds → targets ≡ []
+no-targets change olds [] is are leads = refl
+no-targets change olds (c ∷ rest) is are leads =
+    let found : find (λ (t : TargetChange). bytes_eq c.name t.name) change.targets ≡ Some c =
+    subst (λ (l : List TargetChange). find (λ (t : TargetChange). bytes_eq c.name t.name) l ≡ Some c) is (on-there (λ (t : TargetChange). t.name) (c ∷ rest) c are.rising (Contains-here c rest)) in
+    let environment = environment_in (target_on olds c.name) in
+    let both : ChangesEnvironment (Some c) environment environment =
+    subst (λ (o : Option TargetChange). ChangesEnvironment o environment environment) found (environment-on change olds olds c.name leads) in
+    absurd (are.each.0 (sym both.0 ∙ both.1))
 
 no-digests : (digests : Option DigestChange) (digest : List ℕ) → IfSome digests (λ d. d.old ≢ d.new) → ChangesDigest digests digest digest → digests ≡ None
 no-digests None digest other is = refl
 no-digests (Some d) digest other is = absurd (other (sym is.0 ∙ is.1))
-
-digests-of : (change : ChangeParts) (targets : List Target) → targets ≢ [] → IfSome change.digests (λ d. d.old ≢ d.new) → AllZip (ChangesTarget change) targets targets → change.digests ≡ None
-digests-of change [] some other all = absurd (some refl)
-digests-of change (t ∷ rest) some other all = no-digests change.digests t.lock.snapshot other all.0.lock.digest
 
 -- ---- both
 
@@ -104,7 +102,8 @@ empty-exactly change old new some minimal one after = (
       let here : After old change old = subst (λ (s : StateParts). After old change s) (sym same) after in
       record {
         splices = no-splices change.splices old.lines minimal.splices one here.lines;
-        entries = no-entries change old.targets change.entries refl minimal.entries.each here.known here.targets;
-        digests = digests-of change old.targets some minimal.digests here.targets;
+        targets = no-targets change old.targets change.targets refl minimal.targets here.targets;
+        entries = no-entries change old.targets change.entries refl minimal.entries.each here.targets;
+        digests = no-digests change.digests (digest_of old.targets) minimal.digests (digest-on change.targets change old.targets old.targets some here.targets);
       }),
 )

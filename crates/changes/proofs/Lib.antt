@@ -1,7 +1,9 @@
 pub mod BackFacts
 pub mod BetweenEntries
 pub mod BetweenLines
+pub mod BetweenStates
 pub mod BetweenTargets
+pub mod ByName
 pub mod CarriedFacts
 pub mod CarriedTests
 pub mod ChangeFacts
@@ -11,9 +13,11 @@ pub mod EmptyChanges
 pub mod EndedLines
 pub mod EndsFacts
 pub mod EntriesBelow
+pub mod EntriesCarried
 pub mod EntriesExchanged
 pub mod EntriesExchangedAt
 pub mod EntryInPlaceOfAnother
+pub mod EnvironmentTexts
 pub mod ExchangedLines
 pub mod ExchangesHaveOneOutcome
 pub mod KeptLines
@@ -25,11 +29,14 @@ pub mod NearestFacts
 pub mod OneDifference
 pub mod OneLineDifference
 pub mod OneOutcome
+pub mod OneTarget
 pub mod OwnChanges
 pub mod PlacesHeld
+pub mod Retargeted
 pub mod SplicedFacts
 pub mod SplicedLinesRead
 pub mod StateCarried
 pub mod TargetChanges
+pub mod TargetsByName
 pub mod WholeDifference
 pub mod WholeLines

@@ -1,14 +1,16 @@
 -- Where a change moves a state.
-use Rattle.std.proofs.Common.{◌≡◌, ◌<◌, ◌≤◌, ◌||◌, ℕ, Bool, true, false, List, [], ◌∷◌, Contains, Some, None, length, get_or, map, take, refl, sym, ap, ◌∙◌, subst}
+use Rattle.std.proofs.Common.{◌≡◌, ◌<◌, ◌≤◌, ◌||◌, ℕ, Bool, true, false, List, [], ◌∷◌, Contains, Option, Some, None, length, get_or, map, take, refl, sym, ap, ◌∙◌, subst}
 use Rattle.std.proofs.lemmas.Bool.{and_from, and_parts}
 use Rattle.std.proofs.lemmas.List.Elements.{AllZip-get_or}
 use Rattle.std.specs.List.{AllByRecursion, AllZip, list_all, list_any}
+use Rattle.std.specs.Prelude.{◌≢◌, MatchOption}
 use Rattle.std.specs.Str.{bytes_eq}
 use Rattle.lists.proofs.Members.{take-whole}
-use Rattle.changes.specs.Changes.{After, ChangeParts, ChangesTarget, Leads, LeadsNowhere}
+use Rattle.changes.specs.Changes.{After, ChangeParts, ChangesNames, ChangesTarget, ChangesTargets, Leads, LeadsNowhere}
 use Rattle.states.specs.State.{IsState}
 use Rattle.states.specs.StateParts.{StateParts}
 use Rattle.changes.specs.Tied.Only.{IsTheOnly}
+use Rattle.changes.specs.Tied.Retargeted.{NoTargets, NoneNamed}
 use Rattle.changes.specs.Tied.SplicedLines.{LeadToNone, Reads, put_by}
 use Rattle.changes.specs.declared.change.parts.EntryChange.{EntryChange}
 use Rattle.states.specs.declared.target.Target.{Target}
@@ -17,6 +19,7 @@ use Rattle.states.proofs.PartFacts.{All-member, All-of}
 use Rattle.changes.proofs.LinesCarried.{put-there}
 use Rattle.changes.proofs.OneOutcome.{After-one, targets-one}
 use Rattle.changes.proofs.SplicedLinesRead.{file-reads}
+use Rattle.changes.proofs.TargetsByName.{moves-as, moves-from, stays-as, stays-from}
 
 -- a change that leads to no state here leads nowhere
 pub nowhere : (change : ChangeParts) (old made : StateParts) → After old change made → (IsState made → ⊥) → LeadsNowhere old change
@@ -33,8 +36,8 @@ pub nowhere-gone : (change : ChangeParts) (old : StateParts) → LeadToNone chan
 nowhere-gone change old none = λ new leads. none new.lines leads.0.lines
 
 -- nor where it makes nothing of the targets
-pub nowhere-targets : (change : ChangeParts) (old : StateParts) → IsTheOnly (AllZip (ChangesTarget change) old.targets) None → LeadsNowhere old change
-nowhere-targets change old none = λ new leads. none new.targets leads.0.targets
+pub nowhere-targets : (change : ChangeParts) (old : StateParts) → NoTargets change old.targets → LeadsNowhere old change
+nowhere-targets change old none = λ new leads. none new.targets leads.1.some leads.0.targets
 
 -- where it leads somewhere, it leads here
 pub is-state : (change : ChangeParts) (old made next : StateParts) → After old change made → Leads old change next → IsState made
@@ -62,9 +65,26 @@ known-of targets (c ∷ rest) all =
     and_from (list_any (λ (t : Target). bytes_eq c.target t.name) targets) (list_all (λ (d : EntryChange). list_any (λ (t : Target). bytes_eq d.target t.name) targets) rest)
     (any-named targets c.target ∙ among-of (map (λ (t : Target). t.name) targets) c.target all.0) (known-of targets rest all.1)
 
--- where the target of one isn't there, a change leads nowhere
-pub nowhere-unknown : (change : ChangeParts) (old : StateParts) → list_all (λ c. list_any (λ t. bytes_eq c.target t.name) old.targets) change.entries ≡ false → LeadsNowhere old change
-nowhere-unknown change old unknown = λ new leads. let known = known-of old.targets change.entries leads.0.known in let no : true ≡ false = sym known ∙ unknown in cc
+-- ---- targets that stay
+
+-- where the target of an entry isn't there, a change makes nothing of them
+pub none-unknown : (change : ChangeParts) (olds : List Target) → change.targets ≡ [] → list_all (λ c. list_any (λ t. bytes_eq c.target t.name) olds) change.entries ≡ false → NoTargets change olds
+none-unknown change olds stays unknown = λ news some leads.
+    let known = known-of olds change.entries (stays-from change.targets change olds news stays leads).known in
+    let no : true ≡ false = sym known ∙ unknown in cc
+
+-- else it makes of them what it makes of each
+pub made-of-each : (change : ChangeParts) (olds : List Target) → change.targets ≡ [] → list_all (λ c. list_any (λ t. bytes_eq c.target t.name) olds) change.entries ≡ true
+    → (made : Option (List Target)) → IsTheOnly (AllZip (ChangesTarget change) olds) made → MatchOption made (NoTargets change olds) (ChangesTargets change.targets change olds)
+made-of-each change olds stays known None only = λ news some leads. only news (stays-from change.targets change olds news stays leads).each
+made-of-each change olds stays known (Some news) only = stays-as change.targets change olds news stays (record { each = only.0; known = known-from olds change.entries known })
+
+-- ---- targets of which some come or go
+
+pub made-of-names : (change : ChangeParts) (olds : List Target) → change.targets ≢ [] → (made : Option (List Target)) → MatchOption made (NoneNamed change olds) (ChangesNames change olds)
+    → MatchOption made (NoTargets change olds) (ChangesTargets change.targets change olds)
+made-of-names change olds moves None none = λ news some leads. none news some (moves-from change.targets change olds news moves leads)
+made-of-names change olds moves (Some news) leads = moves-as change.targets change olds news moves leads
 
 -- nor where it leads nowhere from a target
 pub stops-at : (change : ChangeParts) (targets : List Target) (place : ℕ) (t : Target) → place < length targets → t ≡ get_or targets place t → IsTheOnly (ChangesTarget change t) None

@@ -1,22 +1,25 @@
 -- Two states have one difference.
-use Rattle.std.proofs.Common.{◌≡◌, ◌≢◌, ℕ, true, List, [], ◌∷◌, Contains, Less, Equal, Option, Some, None, map, refl, sym, ap, ◌∙◌, subst, inl, inr}
+use Rattle.std.proofs.Common.{◌≡◌, ◌≢◌, ℕ, true, List, [], ◌∷◌, Contains, Less, Equal, Option, Some, None, find, refl, sym, ap, ◌∙◌, subst, inl, inr}
 use Rattle.std.proofs.lemmas.Slice.Eq.{bytes_eq-Decides}
 use Rattle.std.specs.Cmp.{tied_itself}
-use Rattle.std.specs.List.{AllByRecursion, AllZip}
 use Rattle.std.specs.Prelude.{IfSome}
 use Rattle.std.specs.Str.{bytes_eq}
 use Rattle.lists.proofs.Members.{Contains-cons_cases, Contains-filter, Contains-filter_of, Contains-here, Contains-nil, Contains-there}
-use Rattle.changes.specs.Changes.{After, ChangeParts, ChangesDigest, ChangesTarget, IsEntryChange, IsMinimal, changes_on, entry_change_cmp, rise_by_target}
+use Rattle.markers.specs.Environment.{Texts}
+use Rattle.pylock.specs.Packages.{EntryParts}
+use Rattle.changes.specs.Changes.{After, AreTargetChanges, ChangeParts, ChangesDigest, ChangesEntries, ChangesEnvironment, IsEntryChange, IsMinimal, changes_on, entries_in, entry_change_cmp, environment_in, rise_by_target, target_on}
 use Rattle.changes.specs.Differences.{IsDifference}
 use Rattle.states.specs.State.{IsState, entry_on}
-use Rattle.states.specs.StateParts.{StateParts}
+use Rattle.states.specs.StateParts.{StateParts, digest_of}
 use Rattle.changes.specs.declared.change.parts.DigestChange.{DigestChange}
 use Rattle.changes.specs.declared.change.parts.EntryChange.{EntryChange}
-use Rattle.states.specs.declared.target.Target.{Target}
+use Rattle.changes.specs.declared.change.parts.TargetChange.{TargetChange}
 use Rattle.states.proofs.PartFacts.{All-member}
+use Rattle.changes.proofs.ByName.{on-from, on-one}
 use Rattle.changes.proofs.ExchangesHaveOneOutcome.{change-on}
 use Rattle.changes.proofs.OneLineDifference.{splices-of-same, splices-one}
 use Rattle.changes.proofs.TargetChanges.{above, order, rest-rise}
+use Rattle.changes.proofs.TargetsByName.{digest-on, entries-on, environment-on}
 
 -- ---- changes that rise are told by their members
 
@@ -53,50 +56,62 @@ changes-one (c ∷ cs) (d ∷ ds) rise rise_too onto back =
 
 -- ---- what changes between two lists of targets
 
--- a target of the name, and the one that it becomes
-record IsPair (one other : ChangeParts) (name : List ℕ) : Type 0 where
-  old : Target
-  new : Target
-  named : old.name ≡ name
-  leads : ChangesTarget one old new
-  also : ChangesTarget other old new
-
-pair-of : (one other : ChangeParts) (olds news : List Target) (name : List ℕ) → AllZip (ChangesTarget one) olds news → AllZip (ChangesTarget other) olds news → Contains (map (λ t. t.name) olds) name
-    → IsPair one other name
-pair-of one other [] news name all also there = absurd (Contains-nil name there)
-pair-of one other (s ∷ olds) [] name all also there = absurd all
-pair-of one other (s ∷ olds) (t ∷ news) name all also there = elim (Contains-cons_cases s.name (map (λ u. u.name) olds) name there) [
-  | inl same ↦ record { old = s; new = t; named = same; leads = all.0; also = also.0 }
-  | inr more ↦ pair-of one other olds news name all.1 also.1 more
-]
-
 -- a change of an entry is told by both
-told-too : (one other : ChangeParts) (c : EntryChange) → IsPair one other c.target → Contains one.entries c → IsEntryChange c → Contains other.entries c
-told-too one other c pair there is =
-    let s = pair.old in
-    let t = pair.new in
-    let on = λ (d : EntryChange). bytes_eq s.name d.target in
-    let own : on c ≡ true = (bytes_eq-Decides s.name c.target).1 pair.named in
-    let exchanged = pair.leads.lock.entries.changed c (Contains-filter_of on one.entries c there own) in
-    elim (change-on (changes_on s.name other.entries) c.name) [
+told-too : (one other : List EntryChange) (c : EntryChange) (olds news : List EntryParts) → ChangesEntries (changes_on c.target one) olds news → ChangesEntries (changes_on c.target other) olds news → Contains one c
+    → IsEntryChange c → Contains other c
+told-too one other c olds news leads also there is =
+    let on = λ (d : EntryChange). bytes_eq c.target d.target in
+    let own : on c ≡ true = (bytes_eq-Decides c.target c.target).1 refl in
+    let exchanged = leads.changed c (Contains-filter_of on one c there own) in
+    elim (change-on (changes_on c.target other) c.name) [
       | inl found ↦
           let d = found.0 in
-          let within = Contains-filter on other.entries d found.1 in
-          let target : d.target ≡ c.target = sym ((bytes_eq-Decides s.name d.target).0 within.1) ∙ pair.named in
+          let within = Contains-filter on other d found.1 in
+          let target : d.target ≡ c.target = sym ((bytes_eq-Decides c.target d.target).0 within.1) in
           let name : d.name ≡ c.name = found.2 in
-          let exchanged_too = pair.also.lock.entries.changed d found.1 in
-          let old : d.old ≡ c.old = sym exchanged_too.0 ∙ ap (entry_on s.lock.entries) name ∙ exchanged.0 in
-          let new : d.new ≡ c.new = sym exchanged_too.1 ∙ ap (entry_on t.lock.entries) name ∙ exchanged.1 in
+          let exchanged_too = also.changed d found.1 in
+          let old : d.old ≡ c.old = sym exchanged_too.0 ∙ ap (entry_on olds) name ∙ exchanged.0 in
+          let new : d.new ≡ c.new = sym exchanged_too.1 ∙ ap (entry_on news) name ∙ exchanged.1 in
           let same : d ≡ c = λ i. record { target = target i; name = name i; old = old i; new = new i } in
-          subst (Contains other.entries) same within.0
-      | inr none ↦ absurd (is.other (sym exchanged.0 ∙ sym (pair.also.lock.entries.others c.name none) ∙ exchanged.1))
+          subst (Contains other) same within.0
+      | inr none ↦ absurd (is.other (sym exchanged.0 ∙ sym (also.others c.name none) ∙ exchanged.1))
     ]
 
 all-told : (one other : ChangeParts) (old new : StateParts) → After old one new → After old other new → IsMinimal one → (c : EntryChange) → Contains one.entries c → Contains other.entries c
 all-told one other old new leads also minimal c there =
-    let known = All-member (λ (x : EntryChange). Contains (map (λ (t : Target). t.name) old.targets) x.target) one.entries c leads.known there in
-    told-too one other c (pair-of one other old.targets new.targets c.target leads.targets also.targets known) there
+    told-too one.entries other.entries c (entries_in (target_on old.targets c.target)) (entries_in (target_on new.targets c.target))
+    (entries-on one.targets one old.targets new.targets c.target leads.targets) (entries-on other.targets other old.targets new.targets c.target also.targets) there
     (All-member IsEntryChange one.entries c minimal.entries.each there)
+
+-- ---- targets
+
+-- a change of a target is told by both
+same-change : (name : List ℕ) (old new : Option Texts) (one other : Option TargetChange) → ChangesEnvironment one old new → ChangesEnvironment other old new
+    → IfSome one (λ c. (c.name ≡ name) × (c.old ≢ c.new)) → IfSome other (λ c. (c.name ≡ name) × (c.old ≢ c.new)) → one ≡ other
+same-change name old new None None is also own own_too = refl
+same-change name old new None (Some d) is also own own_too = absurd (own_too.1 (sym also.0 ∙ sym is ∙ also.1))
+same-change name old new (Some c) None is also own own_too = absurd (own.1 (sym is.0 ∙ sym also ∙ is.1))
+same-change name old new (Some c) (Some d) is also own own_too =
+    let named : c.name ≡ d.name = own.0 ∙ sym own_too.0 in
+    let olds : c.old ≡ d.old = sym is.0 ∙ also.0 in
+    let news : c.new ≡ d.new = sym is.1 ∙ also.1 in
+    λ i. Some (record { name = named i; old = olds i; new = news i })
+
+-- what is found on a name has it, and changes something
+found-changes : (changes : List TargetChange) (name : List ℕ) (found : Option TargetChange) → AreTargetChanges changes → find (λ t. bytes_eq name t.name) changes ≡ found
+    → IfSome found (λ c. (c.name ≡ name) × (c.old ≢ c.new))
+found-changes changes name None are is = tt
+found-changes changes name (Some c) are is =
+    let from = on-from (λ (t : TargetChange). t.name) changes name c is in
+    (from.1, All-member (λ (t : TargetChange). t.old ≢ t.new) changes c are.each from.0)
+
+targets-told : (one other : ChangeParts) (old new : StateParts) → After old one new → After old other new → IsMinimal one → IsMinimal other → one.targets ≡ other.targets
+targets-told one other old new leads also minimal minimal_too =
+    on-one (λ (t : TargetChange). t.name) one.targets other.targets minimal.targets.rising minimal_too.targets.rising
+    (λ name. same-change name (environment_in (target_on old.targets name)) (environment_in (target_on new.targets name))
+    (find (λ t. bytes_eq name t.name) one.targets) (find (λ t. bytes_eq name t.name) other.targets)
+    (environment-on one old.targets new.targets name leads.targets) (environment-on other old.targets new.targets name also.targets)
+    (found-changes one.targets name (find (λ t. bytes_eq name t.name) one.targets) minimal.targets refl) (found-changes other.targets name (find (λ t. bytes_eq name t.name) other.targets) minimal_too.targets refl))
 
 -- ---- digests
 
@@ -109,13 +124,6 @@ digests-one (Some d) (Some e) old new leads also differ differ_too =
     let news : d.new ≡ e.new = sym leads.1 ∙ also.1 in
     λ i. Some (record { old = olds i; new = news i })
 
-digests-between : (one other : ChangeParts) (olds news : List Target) → olds ≢ [] → AllZip (ChangesTarget one) olds news → AllZip (ChangesTarget other) olds news → IsMinimal one → IsMinimal other
-    → one.digests ≡ other.digests
-digests-between one other [] news some all also minimal minimal_too = absurd (some refl)
-digests-between one other (s ∷ olds) [] some all also minimal minimal_too = absurd all
-digests-between one other (s ∷ olds) (t ∷ news) some all also minimal minimal_too =
-    digests-one one.digests other.digests s.lock.snapshot t.lock.snapshot all.0.lock.digest also.0.lock.digest minimal.digests minimal_too.digests
-
 -- ---- states
 
 pub difference-one : (old new : StateParts) (one other : ChangeParts) → IsState old → IsDifference old one new → IsDifference old other new → one ≡ other
@@ -123,8 +131,11 @@ difference-one old new one other state is also =
     let splices = splices-one 0 one.splices other.splices old.lines new.lines is.leads.lines is.meets is.minimal.splices.exchanges also.leads.lines also.meets also.minimal.splices.exchanges in
     let entries = changes-one one.entries other.entries is.minimal.entries.rising also.minimal.entries.rising
     (all-told one other old new is.leads also.leads is.minimal) (all-told other one old new also.leads is.leads also.minimal) in
-    let digests = digests-between one other old.targets new.targets state.some is.leads.targets also.leads.targets is.minimal also.minimal in
-    λ i. record { splices = splices i; entries = entries i; digests = digests i }
+    let targets = targets-told one other old new is.leads also.leads is.minimal also.minimal in
+    let digests = digests-one one.digests other.digests (digest_of old.targets) (digest_of new.targets)
+    (digest-on one.targets one old.targets new.targets state.some is.leads.targets) (digest-on other.targets other old.targets new.targets state.some also.leads.targets)
+    is.minimal.digests also.minimal.digests in
+    λ i. record { splices = splices i; targets = targets i; entries = entries i; digests = digests i }
 
 pub equal-lines-none : (change : ChangeParts) (old new : StateParts) → IsDifference old change new → old.lines ≡ new.lines → change.splices ≡ []
 equal-lines-none change old new is same = splices-of-same 0 change.splices old.lines new.lines same is.leads.lines is.meets is.minimal.splices.exchanges

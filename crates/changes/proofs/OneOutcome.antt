@@ -2,12 +2,14 @@
 use Rattle.std.proofs.Common.{◌≡◌, ◌++◌, ◌+◌, ◌-◌, ℕ, List, [], ◌∷◌, length, Option, Some, None, refl, sym, ◌∙◌, subst, arith}
 use Rattle.std.specs.List.{AllZip}
 use Rattle.pylock.specs.Locks.{LockParts}
-use Rattle.changes.specs.Changes.{After, ChangeParts, ChangesDigest, ChangesLock, ChangesTarget, Splices, on_target}
-use Rattle.states.specs.StateParts.{StateParts}
+use Rattle.changes.specs.Changes.{After, ChangeParts, ChangesDigest, ChangesLock, ChangesTarget, ChangesTargets, Splices, on_target}
+use Rattle.states.specs.StateParts.{StateParts, digest_of}
 use Rattle.changes.specs.declared.change.parts.DigestChange.{DigestChange}
 use Rattle.changes.specs.declared.change.parts.Splice.{Splice}
+use Rattle.changes.specs.declared.change.parts.TargetChange.{TargetChange}
 use Rattle.states.specs.declared.target.Target.{Target}
 use Rattle.changes.proofs.ExchangesHaveOneOutcome.{ChangesEntries-one}
+use Rattle.changes.proofs.OneTarget.{names-one}
 use Rattle.changes.proofs.SplicedFacts.{parts_of}
 
 -- splices lead to one list of lines
@@ -57,8 +59,14 @@ targets-one change (s ∷ olds) (t ∷ ones) (o ∷ others) all also =
     let rest = targets-one change olds ones others all.1 also.1 in
     λ i. first i ∷ rest i
 
+-- changes of targets lead to the same ones
+targets-alike : (targets : List TargetChange) (change : ChangeParts) (olds ones others : List Target) → ChangesTargets targets change olds ones → ChangesTargets targets change olds others → ones ≡ others
+targets-alike [] change olds ones others is also = targets-one change olds ones others is.each also.each
+targets-alike (c ∷ targets) change olds ones others is also =
+    names-one change olds ones others (ChangesDigest-one change.digests (digest_of olds) (digest_of ones) (digest_of others) is.digest also.digest) is also
+
 pub After-one : (change : ChangeParts) (old one another : StateParts) → After old change one → After old change another → one ≡ another
 After-one change old one another is also =
     let lines = Splices-one 0 change.splices old.lines one.lines another.lines is.lines also.lines in
-    let targets = targets-one change old.targets one.targets another.targets is.targets also.targets in
+    let targets = targets-alike change.targets change old.targets one.targets another.targets is.targets also.targets in
     λ i. record { lines = lines i; targets = targets i }

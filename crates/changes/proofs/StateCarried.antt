@@ -4,7 +4,7 @@ use Rattle.std.specs.List.{AllByRecursion, AllZip, concat}
 use Rattle.pep508.specs.Requirement.{file_of}
 use Rattle.pylock.specs.Locks.{IsLock}
 use Rattle.pylock.specs.Order.{rises}
-use Rattle.states.specs.State.{IsLockFor, IsState}
+use Rattle.states.specs.State.{Fits, IsLockFor, IsState}
 use Rattle.states.specs.StateParts.{StateParts, digest_of}
 use Rattle.states.specs.Tied.LockForLines.{IsLineMet}
 use Rattle.states.specs.declared.target.Target.{Target}
@@ -14,12 +14,14 @@ use Rattle.changes.specs.Tied.CarriedOver.{AreAllMet, AreTouchedMet, IsReachedFr
 use Rattle.changes.specs.Tied.Outcome.{IsMade, with_outcome}
 use Rattle.changes.specs.Tied.SplicedLines.{gone_by, put_by}
 use Rattle.changes.specs.declared.change.outcome.Outcome.{Outcome}
+use Rattle.states.proofs.FitFacts.{IsState-fits}
 use Rattle.states.proofs.LockForLines.{closed-of, met-of, reached-of}
 use Rattle.states.proofs.PartFacts.{All-member, All-of}
 use Rattle.changes.proofs.CarriedFacts.{digest-carried}
 use Rattle.changes.proofs.ChangeFacts.{names-stay}
 use Rattle.changes.proofs.LinesCarried.{put-there}
 use Rattle.changes.proofs.LockCarried.{lock-carried, lock-reached}
+use Rattle.changes.proofs.TargetsByName.{moves-from, stays-from}
 
 -- ---- targets
 
@@ -59,16 +61,20 @@ locks-by change lines more Rest one (t ∷ olds) (u ∷ news) all locks met rest
 
 -- ---- the state
 
-module _ (change : ChangeParts) (old : StateParts) (made : Outcome) (before : IsState old) (is : IsMade old change made) where
+module _ (change : ChangeParts) (old : StateParts) (made : Outcome) (stays : change.targets ≡ []) (before : IsState old) (is : IsMade old change made) where
+  -- each target was moved
+  each : AllZip (ChangesTarget change) old.targets made.targets
+  each = (stays-from change.targets change old.targets made.targets stays is.after.targets).each
+
   -- a state, of its locks
   by-locks : file_of (concat made.lines) ≡ Ok made.lines → AllByRecursion (λ t. IsLockFor made.lines t.environment t.lock) made.targets → IsState (with_outcome made)
   by-locks reads locks = record {
     lines = reads;
-    some = some-still change old.targets made.targets is.after.targets before.some;
-    rising = ap rises (names-stay change old.targets made.targets is.after.targets) ∙ before.rising;
+    some = some-still change old.targets made.targets each before.some;
+    rising = ap rises (names-stay change old.targets made.targets each) ∙ before.rising;
     locks = locks;
     digest = first-digest (carried_digest change.digests (digest_of old.targets)) made.targets
-        (digests-still change (digest_of old.targets) old.targets made.targets is.after.targets before.digest);
+        (digests-still change (digest_of old.targets) old.targets made.targets each before.digest);
   }
 
   put-moved : AllByRecursion (λ t. AreTouchedMet change.entries made.put made.lines t × IsLock t.lock) made.targets
@@ -80,15 +86,16 @@ module _ (change : ChangeParts) (old : StateParts) (made : Outcome) (before : Is
       → AllByRecursion KeepsNeeds change.entries → AllByRecursion (KeepNames made.lines made.gone) made.targets → IsState (with_outcome made)
   state-carried reads met keep names = by-locks reads (locks-by change old.lines made.lines (KeepNames made.lines (gone_by change.splices))
       (λ t u target lock touched lawful kept. lock-carried change old.lines made.lines t u is.after.lines target lock touched lawful keep kept)
-      old.targets made.targets is.after.targets before.locks (put-moved met) (subst (λ (l : List (List ℕ)). AllByRecursion (KeepNames made.lines l) made.targets) is.gone_is names))
+      old.targets made.targets each before.locks (put-moved met) (subst (λ (l : List (List ℕ)). AllByRecursion (KeepNames made.lines l) made.targets) is.gone_is names))
 
   -- and where all entries are reached
   pub state-reached : file_of (concat made.lines) ≡ Ok made.lines → AllByRecursion (λ t. AreTouchedMet change.entries made.put made.lines t × IsLock t.lock) made.targets
       → AllByRecursion (IsReachedFrom made.lines) made.targets → IsState (with_outcome made)
   state-reached reads met found = by-locks reads (locks-by change old.lines made.lines (IsReachedFrom made.lines)
       (λ t u target lock touched lawful reached. lock-reached change old.lines made.lines t u is.after.lines target lock touched lawful reached)
-      old.targets made.targets is.after.targets before.locks (put-moved met) found)
+      old.targets made.targets each before.locks (put-moved met) found)
 
+module _ (change : ChangeParts) (old : StateParts) (made : Outcome) (is : IsMade old change made) where
   put-met : (t : Target) → AreAllMet made.lines t → AreAllMet made.put t
   put-met t all =
       All-of (IsLineMet t.environment t.lock.entries) made.put
@@ -115,3 +122,12 @@ module _ (change : ChangeParts) (old : StateParts) (made : Outcome) (before : Is
   -- and all are reached
   pub all-reached : IsState (with_outcome made) → AllByRecursion (IsReachedFrom made.lines) made.targets
   all-reached after = all-found made.targets after.locks
+
+-- ---- a state with other targets
+
+-- where all targets fit lines that read, a state was made
+pub other-state : (change : ChangeParts) (old : StateParts) (made : Outcome) → change.targets ≢ [] → IsMade old change made → made.targets ≢ [] → file_of (concat made.lines) ≡ Ok made.lines
+    → AllByRecursion (Fits made.lines (digest_of made.targets)) made.targets → IsState (with_outcome made)
+other-state change old made moves is some reads fit =
+    let are = (moves-from change.targets change old.targets made.targets moves is.after.targets).new_are in
+    IsState-fits (with_outcome made) reads some are.rising fit

@@ -1,23 +1,28 @@
 -- Changes: what differs between two states, with what stood there before. All of it is reqlock's own rule.
-use Rattle.std.specs.Prelude.{◌≡◌, ◌≢◌, ℕ, ◌+◌, ◌-◌, ◌^◌, ◌<◌, ◌≤◌, ◌&&◌, Bool, true, List, [], ◌∷◌, ◌++◌, length, map, slice_get, Option, Some, None, option_map, IfSome}
+use Rattle.std.specs.Prelude.{◌≡◌, ◌≢◌, ℕ, ◌+◌, ◌-◌, ◌^◌, ◌<◌, ◌≤◌, ◌&&◌, Bool, true, List, [], ◌∷◌, ◌++◌, find, length, map, slice_get, Option, Some, None, option_map, IfSome}
 use Rattle.std.specs.Cmp.Lexicographic.{slice_cmp}
 use Rattle.std.specs.List.{AllByRecursion, AllZip, Contains, filter}
+use Rattle.std.specs.Option.{option_map_or}
 use Rattle.std.specs.Ordering.{is_lt, nat_cmp, on, then_cmp}
 use Rattle.std.specs.Str.{bytes_eq}
+use Rattle.markers.specs.Environment.{Texts, marker_text}
 use Rattle.std.specs.declared.cmp.Ordering.{Ordering}
 use Rattle.pylock.specs.Locks.{LockParts, are_entries}
 use Rattle.pylock.specs.Order.{rises}
 use Rattle.pylock.specs.Packages.{EntryParts}
-use Rattle.states.specs.StateParts.{StateParts}
+use Rattle.states.specs.StateParts.{StateParts, digest_of}
 use Rattle.states.specs.State.{IsState, entry_on}
 use Rattle.changes.specs.declared.change.parts.Splice.{Splice}
+use Rattle.changes.specs.declared.change.parts.TargetChange.{TargetChange}
 use Rattle.changes.specs.declared.change.parts.EntryChange.{EntryChange}
 use Rattle.changes.specs.declared.change.parts.DigestChange.{DigestChange}
 use Rattle.states.specs.declared.target.Target.{Target}
 
--- what a change holds: splices of the lines, changes of entries, and that of the index's digest, where it is another
+-- what a change holds: splices of the lines, targets that come, go or get another environment, changes of entries, and that of the
+-- index's digest, where it is another
 pub record ChangeParts : Type 0 where
   pub splices : List Splice
+  pub targets : List TargetChange
   pub entries : List EntryChange
   pub digests : Option DigestChange
 
@@ -72,7 +77,7 @@ changes_on target changes = filter (λ c. bytes_eq target c.target) changes
 
 -- what a change is for one target
 abbrev pub on_target : List ℕ → ChangeParts → ChangeParts
-on_target target change = record { splices = change.splices; entries = changes_on target change.entries; digests = change.digests }
+on_target target change = record { splices = change.splices; targets = change.targets; entries = changes_on target change.entries; digests = change.digests }
 
 -- two targets have one name and one environment
 pub record IsSameTarget (old new : Target) : Type 0 where
@@ -84,14 +89,59 @@ pub record ChangesTarget (change : ChangeParts) (old new : Target) : Type 0 wher
   pub same : IsSameTarget old new
   pub lock : ChangesLock (on_target old.name change) old.lock new.lock
 
+-- a change leads from targets to others of the same names and environments, one by one; to none where an entry's target isn't there
+pub record ChangesLocks (change : ChangeParts) (old new : List Target) : Type 0 where
+  pub each : AllZip (ChangesTarget change) old new
+  pub known : AllByRecursion (λ c. Contains (map (λ t. t.name) old) c.target) change.entries
+
+-- ---- targets that come and go
+
+-- the target of a name, if there is one
+abbrev pub target_on : List Target → List ℕ → Option Target
+target_on targets name = find (λ t. bytes_eq name t.name) targets
+
+-- its environment, if there is one, and the entries of its lock, of which there are none where there is no target
+abbrev pub environment_in : Option Target → Option Texts
+environment_in target = option_map (λ (t : Target). t.environment) target
+
+abbrev pub entries_in : Option Target → List EntryParts
+entries_in target = option_map_or (λ (t : Target). t.lock.entries) target []
+
+-- what becomes of the environment of a name: it stays where the change doesn't name it; else the old one stood there, or none, and the
+-- new one takes its place, or none does
+abbrev pub ChangesEnvironment : Option TargetChange → Option Texts → Option Texts → Type 0
+ChangesEnvironment None old new = new ≡ old
+ChangesEnvironment (Some change) old new = (old ≡ change.old) × (new ≡ change.new)
+
+-- what becomes of the target of a name. The entries of one that comes are all put in by the change, and those of one that goes taken out
+pub record ChangesTargetOn (change : ChangeParts) (name : List ℕ) (old new : Option Target) : Type 0 where
+  pub environment : ChangesEnvironment (find (λ t. bytes_eq name t.name) change.targets) (environment_in old) (environment_in new)
+  pub entries : ChangesEntries (changes_on name change.entries) (entries_in old) (entries_in new)
+
+-- names of targets rise, all locks have one digest, and each names its own environment. All of it holds of every state
+pub record AreTargets (targets : List Target) : Type 0 where
+  pub rising : rises (map (λ t. t.name) targets) ≡ true
+  pub digest : AllByRecursion (λ t. t.lock.snapshot ≡ digest_of targets) targets
+  pub named : AllByRecursion (λ t. t.lock.environment ≡ marker_text t.environment) targets
+
+-- a change leads from targets to others, name by name
+pub record ChangesNames (change : ChangeParts) (old new : List Target) : Type 0 where
+  pub each : (name : List ℕ) → ChangesTargetOn change name (target_on old name) (target_on new name)
+  pub digest : ChangesDigest change.digests (digest_of old) (digest_of new)
+  pub old_are : AreTargets old
+  pub new_are : AreTargets new
+
+-- where no target comes, goes or gets another environment, all stay where they are
+abbrev pub ChangesTargets : List TargetChange → ChangeParts → List Target → List Target → Type 0
+ChangesTargets [] change old new = ChangesLocks change old new
+ChangesTargets (target ∷ targets) change old new = ChangesNames change old new
+
 -- ---- states
 
--- a change leads from one state to another, target by target; to none where an old part doesn't stand in its place, or an entry's
--- target isn't one of the state
+-- a change leads from one state to another; to none where an old part doesn't stand in its place
 pub record After (old : StateParts) (change : ChangeParts) (new : StateParts) : Type 0 where
   pub lines : Splices 0 change.splices old.lines new.lines
-  pub targets : AllZip (ChangesTarget change) old.targets new.targets
-  pub known : AllByRecursion (λ c. Contains (map (λ t. t.name) old.targets) c.target) change.entries
+  pub targets : ChangesTargets change.targets change old.targets new.targets
 
 -- a change leads from a state to another, for which all holds that holds of every state
 abbrev pub Leads : StateParts → ChangeParts → StateParts → Type 0
@@ -130,7 +180,10 @@ back added taken [] = []
 back added taken (splice ∷ rest) =
     record { place = splice.place + added - taken; old = splice.new; new = splice.old } ∷ back (added + length splice.new) (taken + length splice.old) rest
 
--- the change of an entry back, and that of the digest: old and new are swapped
+-- the change of a target back, that of an entry, and that of the digest: old and new are swapped
+abbrev pub target_back : TargetChange → TargetChange
+target_back change = record { name = change.name; old = change.new; new = change.old }
+
 abbrev pub entry_back : EntryChange → EntryChange
 entry_back change = record { target = change.target; name = change.name; old = change.new; new = change.old }
 
@@ -141,6 +194,7 @@ digest_back digests = record { old = digests.new; new = digests.old }
 abbrev pub inverse : ChangeParts → ChangeParts
 inverse change = record {
   splices = back 0 0 change.splices;
+  targets = map target_back change.targets;
   entries = map entry_back change.entries;
   digests = option_map digest_back change.digests;
 }
@@ -156,6 +210,11 @@ pub record AreSplices (splices : List Splice) : Type 0 where
   pub apart : RiseFrom 0 splices
   pub places : PlacesFit splices
   pub places_back : PlacesFit (back 0 0 splices)
+
+-- the changes of targets of a minimal change: names rise, and each old environment, or none, becomes another, or none
+pub record AreTargetChanges (changes : List TargetChange) : Type 0 where
+  pub rising : rises (map (λ change. change.name) changes) ≡ true
+  pub each : AllByRecursion (λ change. change.old ≢ change.new) changes
 
 -- the changes of the entries of one lock, in a minimal change: names rise, and each entry becomes another
 pub record AreEntryChanges (changes : List EntryChange) : Type 0 where
@@ -180,12 +239,14 @@ pub record AreMinimalChanges (changes : List EntryChange) : Type 0 where
 -- nothing in a change could be left out
 pub record IsMinimal (change : ChangeParts) : Type 0 where
   pub splices : AreSplices change.splices
+  pub targets : AreTargetChanges change.targets
   pub entries : AreMinimalChanges change.entries
   pub digests : IfSome change.digests (λ d. d.old ≢ d.new)
 
 -- nothing is in a change
 pub record IsEmpty (change : ChangeParts) : Type 0 where
   pub splices : change.splices ≡ []
+  pub targets : change.targets ≡ []
   pub entries : change.entries ≡ []
   pub digests : change.digests ≡ None
 

@@ -9,6 +9,7 @@ pub(crate) mod between;
 mod between_entries;
 mod between_lines;
 mod between_targets;
+pub(crate) mod by_name;
 mod by_target;
 mod carried_over;
 pub(crate) mod difference;
@@ -21,12 +22,13 @@ mod moving;
 mod nearest;
 mod outcome;
 mod parts;
+mod retargeted;
 mod spliced_lines;
 
 use crate::change::application::{applied, carried};
-use crate::change::inverse::{digests_back, entries_back, splices_back};
+use crate::change::inverse::{digests_back, entries_back, splices_back, targets_back};
 pub use crate::change::moving::MovingState;
-pub use crate::change::parts::{DigestChange, EntryChange, Splice};
+pub use crate::change::parts::{DigestChange, EntryChange, Splice, TargetChange};
 use lists::{Faithful, Seq};
 use states::State;
 use std::alloc::{AllocError, Global};
@@ -37,6 +39,7 @@ use std::marker::Model;
 #[derive(Debug)]
 pub struct Change {
     splices: Seq<Splice>,
+    targets: Seq<TargetChange>,
     entries: Seq<EntryChange>,
     digests: Option<DigestChange>,
 }
@@ -45,6 +48,7 @@ impl Drop for Change {
     fn drop(self) {
         let Change {
             splices: _,
+            targets: _,
             entries: _,
             digests: _,
         } = self;
@@ -58,12 +62,14 @@ impl Model for Change {
 
     ghost view = { λ c. record {
       splices = c.splices;
+      targets = c.targets;
       entries = c.entries;
       digests = c.digests;
     } };
 
     ghost invariant = { λ c. IsMinimal (record {
       splices = c.splices;
+      targets = c.targets;
       entries = c.entries;
       digests = c.digests;
     }) };
@@ -72,24 +78,32 @@ impl Model for Change {
 impl Change {
     /// The change of these parts; `None` where they aren't minimal: a splice whose old and new lines
     /// begin or end with an equal line, or are both empty; splices that don't rise with a kept line
-    /// between two; pairs of a target and a name that don't rise by their bytes; an entry on another
-    /// name; an old entry that equals its new one to the text; equal digests; a place that the inverse
-    /// moves above 2 ^ 64 - 1. It has no other refusal.
+    /// between two; names of targets that don't rise by their bytes; an old environment that equals its
+    /// new one, or neither; pairs of a target and a name that don't rise by their bytes; an entry on
+    /// another name; an old entry that equals its new one to the text; equal digests; a place that the
+    /// inverse moves above 2 ^ 64 - 1. It has no other refusal.
     pub fn new(
         splices: Seq<Splice>,
+        targets: Seq<TargetChange>,
         entries: Seq<EntryChange>,
         digests: Option<DigestChange>,
     ) -> Option<Change>
-        ensures { let parts : ChangeParts
-            = record { splices = splices; entries = entries; digests = digests } in
+        ensures { let parts : ChangeParts = record {
+          splices = splices;
+          targets = targets;
+          entries = entries;
+          digests = digests;
+        } in
             MatchOption result (IsMinimal parts → ⊥) (λ change. change ≡ parts) }
     {
         if minimal::are_splices(splices.as_slice())
+            && minimal::are_targets(targets.as_slice())
             && minimal::are_entries(entries.as_slice())
             && minimal::is_other(&digests)
         {
             return Some(Change {
                 splices,
+                targets,
                 entries,
                 digests,
             });
@@ -102,6 +116,13 @@ impl Change {
         ensures { result.now ≡ self.now.splices }
     {
         self.splices.as_slice()
+    }
+
+    /// The targets that come, go, or get another environment, in the order of their names.
+    pub fn targets(&self) -> &[TargetChange]
+        ensures { result.now ≡ self.now.targets }
+    {
+        self.targets.as_slice()
     }
 
     /// The changes of entries, in the order of their targets, and of their names in each.
@@ -122,7 +143,10 @@ impl Change {
     pub fn is_empty(&self) -> bool
         ensures { IsTrue result ↔ IsEmpty self.now }
     {
-        self.splices.is_empty() && self.entries.is_empty() && self.digests.is_none()
+        self.splices.is_empty()
+            && self.targets.is_empty()
+            && self.entries.is_empty()
+            && self.digests.is_none()
     }
 
     /// What holds of every change.
@@ -133,8 +157,9 @@ impl Change {
     }
 
     /// The state that the change of `state` leads to; `None` where one of the change's old parts doesn't
-    /// stand in its place, where the state lacks the target of an entry, or where what it leads to is no
-    /// state: lines that don't read, or a lock that doesn't belong to them.
+    /// stand in its place, where the state lacks the target of an entry, where a target that goes keeps an
+    /// entry, or where what it leads to is no state: lines that don't read, or a lock that doesn't belong to
+    /// them.
     pub fn apply(&self, alloc: Global, state: &State) -> Result<Option<State>, AllocError>
         ensures { IfOk result (λ applied. MatchOption applied (LeadsNowhere state.now self.now)
             (Leads state.now self.now)) }
@@ -157,9 +182,11 @@ impl Change {
         ensures { IfOk result (λ change. change ≡ inverse self.now) }
     {
         let splices = splices_back(alloc, self.splices.as_slice())?;
+        let targets = targets_back(alloc, self.targets.as_slice())?;
         let entries = entries_back(alloc, self.entries.as_slice())?;
         Ok(Change {
             splices,
+            targets,
             entries,
             digests: digests_back(self.digests),
         })
@@ -171,9 +198,11 @@ impl Clone for Change {
 
     fn clone(&self) -> Result<Change, AllocError> {
         let splices = self.splices.clone()?;
+        let targets = self.targets.clone()?;
         let entries = self.entries.clone()?;
         Ok(Change {
             splices,
+            targets,
             entries,
             digests: self.digests,
         })

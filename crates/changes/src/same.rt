@@ -1,8 +1,12 @@
 // Whether values hold the same, compared by their texts and not by an order.
 
 ghost use Rattle.std.specs.Prelude.{◌≡◌, ◌↔◌, IsTrue};
+ghost use Rattle.std.specs.List.{list_all};
+ghost use Rattle.std.specs.Str.{bytes_eq};
+ghost use Rattle.markers.specs.Environment.{all_variables, text_of};
 
 use lists::Text;
+use markers::{Environment, VARIABLES};
 use pep440::{LocalPart, Pre, Version};
 use pep508::{Line, Name};
 use pylock::{Entry, FileEntry};
@@ -124,5 +128,21 @@ impl Same for Entry {
             && are_same(self.dependencies(), other.dependencies())
             && self.sdist().is_same(other.sdist())
             && are_same(self.wheels(), other.wheels())
+    }
+}
+
+/// Whether both have the same text of each variable.
+fn have_same_texts(environment: &Environment, other: &Environment) -> bool
+    ensures { result ≡ list_all
+        (λ v. bytes_eq (text_of environment.now v) (text_of other.now v)) all_variables }
+{
+    VARIABLES.iter().all(|variable| environment.text(*variable) == other.text(*variable))
+}
+
+impl Same for Environment {
+    fn is_same(&self, other: &Environment) -> bool {
+        self.recall_invariant();
+        other.recall_invariant();
+        have_same_texts(self, other)
     }
 }

@@ -1,13 +1,12 @@
 -- The state that a change leads to, as a function of the state and the change.
 -- Tied to `After` by the law `a_change_leads_where_it_carries`; need not be read.
 use Rattle.std.specs.Prelude.{ℕ, ◌+◌, ◌-◌, List, [], ◌∷◌, ◌++◌, drop, length, map, take, Option, Some, None}
-use Rattle.std.specs.Option.{option_to_list}
-use Rattle.pylock.specs.Packages.{EntryParts}
 use Rattle.changes.specs.Changes.{ChangeParts, changes_on}
-use Rattle.states.specs.StateParts.{StateParts}
-use Rattle.changes.specs.Tied.ExchangedEntries.{count_below, entries_on}
+use Rattle.states.specs.StateParts.{StateParts, digest_of}
+use Rattle.changes.specs.Tied.ExchangedEntries.{carried_entries}
+use Rattle.changes.specs.Tied.Retargeted.{carried_on, names_met, on_names}
 use Rattle.changes.specs.declared.change.parts.Splice.{Splice}
-use Rattle.changes.specs.declared.change.parts.EntryChange.{EntryChange}
+use Rattle.changes.specs.declared.change.parts.TargetChange.{TargetChange}
 use Rattle.changes.specs.declared.change.parts.DigestChange.{DigestChange}
 use Rattle.states.specs.declared.target.Target.{Target}
 
@@ -16,17 +15,6 @@ abbrev pub carried_lines : ℕ → List Splice → List (List ℕ) → List (Lis
 carried_lines from [] lines = lines
 carried_lines from (splice ∷ rest) lines =
     take (splice.place - from) lines ++ splice.new ++ carried_lines (splice.place + length splice.old) rest (drop (splice.place - from + length splice.old) lines)
-
--- the entries that aren't below a name
-abbrev pub from_name : List ℕ → List EntryParts → List EntryParts
-from_name name entries = drop (count_below name entries) entries
-
--- the entries after the changes of some
-abbrev pub carried_entries : List EntryChange → List EntryParts → List EntryParts
-carried_entries [] entries = entries
-carried_entries (change ∷ rest) entries =
-    take (count_below change.name entries) entries ++ option_to_list change.new
-    ++ carried_entries rest (drop (entries_on change.name (from_name change.name entries)) (from_name change.name entries))
 
 -- the digest after its change
 abbrev pub carried_digest : Option DigestChange → List ℕ → List ℕ
@@ -45,6 +33,11 @@ carried_target change target = record {
   };
 }
 
+-- the targets after the change
+abbrev pub carried_targets : List TargetChange → ChangeParts → List Target → List Target
+carried_targets [] change olds = map (carried_target change) olds
+carried_targets (target ∷ targets) change olds = on_names (carried_on change (carried_digest change.digests (digest_of olds)) olds) (names_met change olds)
+
 -- the state after the change
 abbrev pub carried : StateParts → ChangeParts → StateParts
-carried state change = record { lines = carried_lines 0 change.splices state.lines; targets = map (carried_target change) state.targets }
+carried state change = record { lines = carried_lines 0 change.splices state.lines; targets = carried_targets change.targets change state.targets }

@@ -1,6 +1,6 @@
 -- Entries that changes lead to, as they are put together.
 -- Tied to `ChangesEntries` by the contract of `Change::apply`; need not be read.
-use Rattle.std.specs.Prelude.{◌≡◌, ◌++◌, ℕ, suc, List, [], ◌∷◌, if◌then◌else◌}
+use Rattle.std.specs.Prelude.{◌≡◌, ◌++◌, ℕ, suc, List, [], ◌∷◌, drop, take, if◌then◌else◌}
 use Rattle.std.specs.Cmp.Lexicographic.{slice_cmp}
 use Rattle.std.specs.List.{AllByRecursion}
 use Rattle.std.specs.Option.{option_to_list}
@@ -9,6 +9,7 @@ use Rattle.std.specs.Str.{bytes_eq}
 use Rattle.std.specs.declared.cmp.Ordering.TheVariants.{Less}
 use Rattle.pylock.specs.Packages.{EntryParts}
 use Rattle.states.specs.State.{entry_on}
+use Rattle.changes.specs.declared.change.parts.EntryChange.{EntryChange}
 
 -- how many entries stand before the first whose name isn't below this one
 abbrev pub count_below : List ℕ → List EntryParts → ℕ
@@ -19,6 +20,17 @@ count_below name (e ∷ rest) = if is_lt (slice_cmp nat_cmp e.name name) then su
 abbrev pub entries_on : List ℕ → List EntryParts → ℕ
 entries_on name [] = 0
 entries_on name (e ∷ rest) = if bytes_eq name e.name then 1 else 0
+
+-- the entries that aren't below a name
+abbrev pub from_name : List ℕ → List EntryParts → List EntryParts
+from_name name entries = drop (count_below name entries) entries
+
+-- the entries after the changes of some
+abbrev pub carried_entries : List EntryChange → List EntryParts → List EntryParts
+carried_entries [] entries = entries
+carried_entries (change ∷ rest) entries =
+    take (count_below change.name entries) entries ++ option_to_list change.new
+    ++ carried_entries rest (drop (entries_on change.name (from_name change.name entries)) (from_name change.name entries))
 
 -- the names of entries are below a name, or above it
 abbrev pub AreBelow : List EntryParts → List ℕ → Type 0

@@ -64,6 +64,7 @@ pub(crate) fn carried(alloc: Global, change: &Change, state: &mut State) -> Resu
     ensures led { OnOk result (Leads state.old change.now state.new) }
     ensures kept { OnErr result (state.new ≡ state.old) }
 {
+    state.recall_invariant();
     let lines = kept(alloc, state.lines().lines())?;
     let Some(made) = outcome_of(alloc, change, lines, state.targets())? else {
         unreachable!();

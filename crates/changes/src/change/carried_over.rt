@@ -1,13 +1,13 @@
 // What carries over from a state to the one that a change makes of it.
 
-ghost use Rattle.std.specs.Prelude.{◌≡◌, ◌↔◌, IfOk, IsTrue, Ok, true};
+ghost use Rattle.std.specs.Prelude.{◌≡◌, ◌≢◌, ◌↔◌, [], IfOk, IsTrue, Ok, true};
 ghost use Rattle.std.specs.List.{AllByRecursion, concat, list_all};
 ghost use Rattle.pep508.specs.Lines.{AreLines};
 ghost use Rattle.pep508.specs.Requirement.{file_of, requirement_of};
 ghost use Rattle.problems.specs.Problem.{active_in, requirements};
 ghost use Rattle.pylock.specs.Locks.{IsLock, are_entries};
-ghost use Rattle.states.specs.State.{IsState};
-ghost use Rattle.states.specs.StateParts.{StateParts};
+ghost use Rattle.states.specs.State.{Fits, IsState};
+ghost use Rattle.states.specs.StateParts.{StateParts, digest_of};
 ghost use Rattle.states.specs.Tied.LockForLines.{IsLineMet};
 ghost use Rattle.changes.specs.Changes.{ChangeParts, rise_by_target};
 ghost use Rattle.changes.specs.Tied.CarriedOver.{AreAllMet, AreTouchedMet, IsAskedBy, IsChanged, IsChangedMet, IsReachedFrom, KeepNames, KeepsName, KeepsNeeds};
@@ -19,11 +19,12 @@ use crate::change::by_target::own_changes;
 use crate::change::file::{are_ended, are_lines, recall_invariants};
 use crate::change::outcome::Outcome;
 use crate::change::parts::EntryChange;
+use crate::change::spliced_lines::kept;
 use crate::same::{Same, are_same};
 use pep508::laws::a_file_reads_as_lines;
-use pep508::{Environment, Line, Name};
+use pep508::{Environment, Line, Name, ReqFile};
 use pylock::Entry;
-use states::{Target, are_closed, are_lines_met, are_reached, is_line_met};
+use states::{Target, are_closed, are_lines_met, are_reached, first_unfit, is_line_met};
 use std::alloc::{AllocError, Global};
 
 // ---- what each needs
@@ -266,10 +267,12 @@ fn reaches_as_before(change: &Change, made: &Outcome) -> bool
         )
 }
 
-/// Whether what the change made of a state is a state. Of what is met only that is tested which the change touched:
-/// lines that it put in, and lines on the names of its entries. Who is reached is tested where it isn't as before.
-pub(crate) fn is_state(alloc: Global, change: &Change, made: &Outcome) -> Result<bool, AllocError>
-    requires { (old : StateParts) × IsState old × IsMade old change.now made.now }
+/// Whether what a change by which targets stay made of a state is a state. Of what is met only that is tested which the
+/// change touched: lines that it put in, and lines on the names of its entries. Who is reached is tested where it isn't
+/// as before.
+fn is_still_state(alloc: Global, change: &Change, made: &Outcome) -> Result<bool, AllocError>
+    requires stays { change.now.targets ≡ [] }
+    requires made { (old : StateParts) × IsState old × IsMade old change.now made.now }
     ensures { IfOk result (λ is. IsTrue is ↔ IsState (with_outcome made.now)) }
 {
     a_file_reads_as_lines();
@@ -286,4 +289,45 @@ pub(crate) fn is_state(alloc: Global, change: &Change, made: &Outcome) -> Result
         return Ok(true);
     }
     all_reached(alloc, lines, targets)
+}
+
+/// Whether all targets fit the lines, which are those of a file.
+fn do_fit(alloc: Global, lines: &[Line], targets: &[Target]) -> Result<bool, AllocError>
+    requires { AreLines lines.now }
+    ensures { IfOk result (λ are. IsTrue are
+        ↔ AllByRecursion (Fits lines.now (digest_of targets.now)) targets.now) }
+{
+    let file = ReqFile::from_lines(kept(alloc, lines)?);
+    match first_unfit(alloc, &file, targets)? {
+        Some(_) => Ok(false),
+        None => Ok(true),
+    }
+}
+
+/// Whether what a change by which targets come, go or get another environment made of a state is a state. Each lock is
+/// tested.
+fn is_other_state(alloc: Global, change: &Change, made: &Outcome) -> Result<bool, AllocError>
+    requires moves { change.now.targets ≢ [] }
+    requires made { (old : StateParts) × IsState old × IsMade old change.now made.now }
+    ensures { IfOk result (λ is. IsTrue is ↔ IsState (with_outcome made.now)) }
+{
+    a_file_reads_as_lines();
+    if !are_lines_still(made) {
+        return Ok(false);
+    }
+    if made.targets.is_empty() {
+        return Ok(false);
+    }
+    do_fit(alloc, made.lines.as_slice(), made.targets.as_slice())
+}
+
+/// Whether what the change made of a state is a state.
+pub(crate) fn is_state(alloc: Global, change: &Change, made: &Outcome) -> Result<bool, AllocError>
+    requires { (old : StateParts) × IsState old × IsMade old change.now made.now }
+    ensures { IfOk result (λ is. IsTrue is ↔ IsState (with_outcome made.now)) }
+{
+    if change.targets().is_empty() {
+        return is_still_state(alloc, change, made);
+    }
+    is_other_state(alloc, change, made)
 }

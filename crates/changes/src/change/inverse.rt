@@ -1,11 +1,11 @@
 // The change back.
 
 ghost use Rattle.std.specs.Prelude.{◌≡◌, IfOk, map, option_map};
-ghost use Rattle.changes.specs.Changes.{back, digest_back, entry_back};
+ghost use Rattle.changes.specs.Changes.{back, digest_back, entry_back, target_back};
 ghost use Rattle.changes.specs.Tied.Ends.{DoRise};
 
 use crate::change::ends::{ends_of, place_behind};
-use crate::change::parts::{DigestChange, EntryChange, Splice};
+use crate::change::parts::{DigestChange, EntryChange, Splice, TargetChange};
 use lists::{Seq, copied};
 use std::alloc::{AllocError, Global};
 
@@ -37,6 +37,30 @@ pub(crate) fn splices_back(alloc: Global, splices: &[Splice]) -> Result<Seq<Spli
         };
         made.push(splice_back(splice, moved)?)?;
         ends = ends_of(splice, moved);
+    }
+    Ok(Seq::from_vec(made))
+}
+
+/// The change of the target back.
+fn target_back(change: &TargetChange) -> Result<TargetChange, AllocError>
+    ensures { IfOk result (λ back. back ≡ target_back change.now) }
+{
+    let name = change.name.clone()?;
+    let old = copied(&change.new)?;
+    let new = copied(&change.old)?;
+    Ok(TargetChange { name, old, new })
+}
+
+/// The changes of targets back.
+pub(crate) fn targets_back(
+    alloc: Global,
+    changes: &[TargetChange],
+) -> Result<Seq<TargetChange>, AllocError>
+    ensures { IfOk result (λ made. made ≡ map target_back changes.now) }
+{
+    let mut made = Vec::with_capacity(alloc, changes.len())?;
+    for change in changes {
+        made.push(target_back(change)?)?;
     }
     Ok(Seq::from_vec(made))
 }

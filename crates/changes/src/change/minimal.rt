@@ -3,13 +3,14 @@
 ghost use Rattle.std.specs.Prelude.{◌≡◌, ◌≢◌, ◌↔◌, ◌-◌, ◌<◌, IfSome, IsTrue, true};
 ghost use Rattle.std.specs.List.{AllByRecursion};
 ghost use Rattle.std.specs.Option.{option_copied};
-ghost use Rattle.changes.specs.Changes.{AreMinimalChanges, AreSplices, IsEntryChange, IsExchange, IsOn};
+ghost use Rattle.changes.specs.Changes.{AreMinimalChanges, AreSplices, AreTargetChanges, IsEntryChange, IsExchange, IsOn};
 ghost use Rattle.changes.specs.Tied.Ends.{DoRise};
 
 use crate::change::by_target::rise_by_target;
 use crate::change::ends::{ends_of, place_behind};
-use crate::change::parts::{DigestChange, EntryChange, Splice};
+use crate::change::parts::{DigestChange, EntryChange, Splice, TargetChange};
 use crate::same::Same;
+use lists::{Named, rises};
 use pep508::Name;
 use pylock::Entry;
 
@@ -73,6 +74,22 @@ impl Part for EntryChange {
     }
 }
 
+impl Part for TargetChange {
+    ghost IsPart = { λ c. c.old ≢ c.new };
+
+    fn is_part(&self) -> bool {
+        !self.old.is_same(&self.new)
+    }
+}
+
+impl Named for TargetChange {
+    ghost named = { λ c. c.name };
+
+    fn text(&self) -> &str {
+        self.name.as_str()
+    }
+}
+
 /// Whether the splices rise with a kept line between two, and each place fits, in the new lines too.
 fn do_rise(splices: &[Splice]) -> bool
     ensures { IsTrue result ↔ DoRise splices.now }
@@ -96,6 +113,13 @@ pub(crate) fn are_splices(splices: &[Splice]) -> bool
     ensures { IsTrue result ↔ AreSplices splices.now }
 {
     are_parts(splices) && do_rise(splices)
+}
+
+/// Whether these are the targets' changes of a minimal change.
+pub(crate) fn are_targets(changes: &[TargetChange]) -> bool
+    ensures { IsTrue result ↔ AreTargetChanges changes.now }
+{
+    rises(changes) && are_parts(changes)
 }
 
 /// Whether these are the entries' changes of a minimal change.

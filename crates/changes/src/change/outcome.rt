@@ -1,12 +1,14 @@
 // What a change makes of a state.
 
-ghost use Rattle.std.specs.Prelude.{◌≡◌, IfOk, MatchOption, true};
+ghost use Rattle.std.specs.Prelude.{◌≡◌, ◌≢◌, [], IfOk, MatchOption, true};
 ghost use Rattle.std.specs.List.{AllZip, list_all, list_any};
 ghost use Rattle.std.specs.Str.{bytes_eq};
 ghost use Rattle.pylock.specs.Locks.{are_entries};
-ghost use Rattle.changes.specs.Changes.{ChangesDigest, ChangesTarget, LeadsNowhere};
+ghost use Rattle.changes.specs.Changes.{AreTargets, ChangesDigest, ChangesTarget, ChangesTargets, LeadsNowhere};
 ghost use Rattle.changes.specs.Tied.Outcome.{IsMade, with_entries};
 ghost use Rattle.changes.specs.Tied.Only.{IsTheOnly};
+ghost use Rattle.changes.specs.Tied.Retargeted.{NoTargets};
+ghost use Rattle.states.specs.State.{IsState};
 ghost use Rattle.states.specs.StateParts.{StateParts};
 
 use crate::change::Change;
@@ -14,6 +16,7 @@ use crate::change::by_target::own_changes;
 use crate::change::exchanged_entries::exchanged;
 use crate::change::file::is_last_ended;
 use crate::change::parts::{DigestChange, EntryChange};
+use crate::change::retargeted::retargeted;
 use crate::change::spliced_lines::{exchanged_lines, lines_gone, lines_put};
 use lists::{Seq, Text};
 use pep508::Line;
@@ -35,7 +38,7 @@ pub(crate) struct Outcome {
 }
 
 /// The digest after the change; `None` where another one stood there.
-fn digest_after(digests: Option<DigestChange>, digest: [u8; 32]) -> Option<[u8; 32]>
+pub(crate) fn digest_after(digests: Option<DigestChange>, digest: [u8; 32]) -> Option<[u8; 32]>
     ensures { IsTheOnly (ChangesDigest digests digest) result }
 {
     let Some(digests) = digests else {
@@ -87,7 +90,7 @@ fn moved(alloc: Global, change: &Change, target: &Target) -> Result<Option<Targe
     Ok(Some(target_with(alloc, target, digest, entries)?))
 }
 
-/// What the change makes of the targets; `None` where it makes nothing of one.
+/// What a change by which targets stay makes of them; `None` where it makes nothing of one.
 fn all_moved(
     alloc: Global,
     change: &Change,
@@ -124,23 +127,41 @@ fn are_known(targets: &[Target], changes: &[EntryChange]) -> bool
         .all(|change| is_known(targets, &change.target))
 }
 
+/// What the change makes of the targets; `None` where an old part of it doesn't stand in its place.
+fn targets_after(
+    alloc: Global,
+    change: &Change,
+    targets: &[Target],
+) -> Result<Option<Seq<Target>>, AllocError>
+    requires are { AreTargets targets.now }
+    requires some { targets.now ≢ [] }
+    ensures { IfOk result (λ made. MatchOption made (NoTargets change.now targets.now)
+        (ChangesTargets change.now.targets change.now targets.now)) }
+{
+    if !change.targets().is_empty() {
+        return retargeted(alloc, change, targets);
+    }
+    if !are_known(targets, change.entries()) {
+        return Ok(None);
+    }
+    all_moved(alloc, change, targets)
+}
+
 /// What the change makes of these lines and targets; `None` where an old part of it doesn't stand in its
-/// place, a target of it isn't there, or a new line doesn't read. Whether it is a state isn't tested.
+/// place, or a new line doesn't read. Whether it is a state isn't tested.
 pub(crate) fn outcome_of(
     alloc: Global,
     change: &Change,
     lines: Seq<Line>,
     targets: &[Target],
 ) -> Result<Option<Outcome>, AllocError>
+    requires { IsState (record { lines = lines; targets = targets.now }) }
     ensures { IfOk result (λ made.
         let old : StateParts = record { lines = lines; targets = targets.now } in
         MatchOption made (LeadsNowhere old change.now) (IsMade old change.now)) }
 {
     change.recall_invariant();
-    if !are_known(targets, change.entries()) {
-        return Ok(None);
-    }
-    let Some(targets) = all_moved(alloc, change, targets)? else {
+    let Some(targets) = targets_after(alloc, change, targets)? else {
         return Ok(None);
     };
     let splices = change.splices();

@@ -5,7 +5,7 @@ ghost use Rattle.std.specs.Prelude.{◌≡◌};
 use lists::{Faithful, Seq, Text, copied};
 use pep508::Name;
 use pylock::Entry;
-use states::TargetName;
+use states::{Environment, TargetName};
 use std::alloc::AllocError;
 
 /// Lines that give way to others at a place of a requirements file.
@@ -31,6 +31,17 @@ pub struct EntryChange {
     pub old: Option<Entry>,
     /// The entry that takes its place; `None` where none does.
     pub new: Option<Entry>,
+}
+
+/// What becomes of the target of a name: it comes, goes, or gets another environment.
+#[derive(Debug, Drop)]
+pub struct TargetChange {
+    /// The name of the target.
+    pub name: TargetName,
+    /// The environment that gives way; `None` where the target comes.
+    pub old: Option<Environment>,
+    /// The environment that takes its place; `None` where the target goes.
+    pub new: Option<Environment>,
 }
 
 /// What becomes of the SHA-256 digest of the index.
@@ -78,5 +89,20 @@ impl Clone for EntryChange {
 }
 
 impl Faithful for EntryChange {
+    ghost clone_is_source = { λ x y h. h };
+}
+
+impl Clone for TargetChange {
+    ghost is_clone = { λ c d. d ≡ c };
+
+    fn clone(&self) -> Result<TargetChange, AllocError> {
+        let name = self.name.clone()?;
+        let old = copied(&self.old)?;
+        let new = copied(&self.new)?;
+        Ok(TargetChange { name, old, new })
+    }
+}
+
+impl Faithful for TargetChange {
     ghost clone_is_source = { λ x y h. h };
 }

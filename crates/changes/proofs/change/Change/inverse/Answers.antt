@@ -14,5 +14,5 @@ splices_back-requires c =
 
 pub invariant_of-result : goal.invariant_of-result
 invariant_of-result c =
-    let change : ChangeParts = record { splices = c.self.inside.splices; entries = c.self.inside.entries; digests = c.self.inside.digests } in
-    rw (c.in_ok-splices.ensures, c.as_slice.ensures, c.in_ok-entries.ensures, c.as_slice-2.ensures, c.digests_back.ensures) (IsMinimal-inverse change c.self.invariant)
+    let change : ChangeParts = record { splices = c.self.inside.splices; targets = c.self.inside.targets; entries = c.self.inside.entries; digests = c.self.inside.digests } in
+    rw (c.in_ok-splices.ensures, c.as_slice.ensures, c.in_ok-targets.ensures, c.as_slice-2.ensures, c.in_ok-entries.ensures, c.as_slice-3.ensures, c.digests_back.ensures) (IsMinimal-inverse change c.self.invariant)

@@ -2,6 +2,9 @@ use Rattle.changes.specs.Tied.Outcome.{IsMade, with_outcome}
 use Rattle.changes.proofs.MovedFacts.{is-state}
 use Rattle.changes.proofs.change.application.carried.Goals as goal
 
+pub outcome_of-requires : goal.outcome_of-requires
+outcome_of-requires c = rw (c.in_ok-lines.ensures, c.lines-2.ensures, c.lines.ensures, c.targets.ensures) c.recall_invariant.ensures
+
 pub replace-requires : goal.replace-requires
 replace-requires c =
     let state = c.args.state.now in

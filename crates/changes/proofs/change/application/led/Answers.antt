@@ -4,6 +4,9 @@ use Rattle.changes.specs.Tied.Outcome.{IsMade, with_outcome}
 use Rattle.changes.proofs.MovedFacts.{nowhere}
 use Rattle.changes.proofs.change.application.led.Goals as goal
 
+pub outcome_of-requires : goal.outcome_of-requires
+outcome_of-requires c = c.requires
+
 pub is_state-requires : goal.is_state-requires
 is_state-requires c =
     let old : StateParts = record { lines = c.args.lines; targets = c.args.targets.now } in

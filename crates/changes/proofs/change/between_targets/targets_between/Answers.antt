@@ -1,22 +1,16 @@
-use Rattle.std.proofs.Common.{◌≡◌, length, arith}
-use Rattle.std.proofs.lemmas.List.Elements.{length_all_zip}
-use Rattle.changes.specs.Changes.{IsSameTarget}
-use Rattle.changes.proofs.BetweenTargets.{between-done, between-next, between-start}
+use Rattle.std.proofs.Common.{◌≡◌, ◌∙◌, List, ℕ, subst}
+use Rattle.changes.specs.Tied.Between.{AreEntriesBetween, names_of, target_change_on}
+use Rattle.changes.specs.Tied.Retargeted.{on_names}
+use Rattle.changes.proofs.BetweenTargets.{between-all}
 use Rattle.changes.proofs.change.between_targets.targets_between.Goals as goal
-
-pub loop-place-init : goal.loop-place-init
-loop-place-init c = rw c.new-made.ensures.items (between-start c.args.old.now c.args.new.now)
-
-pub loop-place-preserved : goal.loop-place-preserved
-loop-place-preserved c =
-    let long : length c.args.old.now ≡ length c.args.new.now = length_all_zip IsSameTarget c.args.old.now c.args.new.now c.requires.same in
-    let leads = rw (c.entries.ensures, c.entries-in-loop-place.ensures) at c.in_ok-own.ensures.leads in
-    rw (c.in_ok-append.ensures.items, c.into_vec.ensures)
-    (between-next c.args.old.now c.args.new.now c.loop-place.place c.index-old-place.result c.index-new-place.result c.loop-place.made.items c.in_ok-own.own c.requires.rising
-    c.loop-place-test.true (omega (arith, long, c.loop-place-test.true)) c.index-old-place.is c.index-new-place.is leads c.in_ok-own.ensures.minimal c.in_ok-own.ensures.own c.loop-place.invariant)
 
 pub returns : goal.returns
 returns c =
-    let long : length c.args.old.now ≡ length c.args.new.now = length_all_zip IsSameTarget c.args.old.now c.args.new.now c.requires.same in
-    rw c.from_vec.ensures
-    (between-done c.args.old.now c.args.new.now c.loop-place.place c.loop-place.made.items c.loop-place-test.false (omega (arith, long, c.loop-place-test.false)) c.loop-place.invariant)
+    let old = c.args.old.now in
+    let new = c.args.new.now in
+    let names : c.in_ok-names.names ≡ names_of old new = c.in_ok-names.ensures.names ∙ c.in_ok-names_of.ensures in
+    let targets : c.in_ok-targets.targets ≡ on_names (target_change_on old new) (names_of old new) =
+    subst (λ (l : List (List ℕ)). c.in_ok-targets.targets ≡ on_names (target_change_on old new) l) names (rw c.as_slice.ensures at c.in_ok-targets.ensures) in
+    let entries : AreEntriesBetween old new (names_of old new) c.in_ok-entries.entries =
+    subst (λ (l : List (List ℕ)). AreEntriesBetween old new l c.in_ok-entries.entries) names (rw c.as_slice-2.ensures at c.in_ok-entries.ensures) in
+    between-all old new c.in_ok-targets.targets c.in_ok-entries.entries targets entries

@@ -1,16 +1,13 @@
-use Rattle.std.proofs.Common.{◌≡◌, true, false}
-use Rattle.std.specs.List.{list_all, list_any}
-use Rattle.std.specs.Str.{bytes_eq}
 use Rattle.states.specs.StateParts.{StateParts}
-use Rattle.changes.proofs.MovedFacts.{known-from, nowhere-gone, nowhere-put, nowhere-targets, nowhere-unknown}
+use Rattle.changes.proofs.BetweenStates.{state-targets}
+use Rattle.changes.proofs.MovedFacts.{nowhere-gone, nowhere-put, nowhere-targets}
 use Rattle.changes.proofs.change.outcome.outcome_of.Goals as goal
 
-pub returns-then-not-are_known : goal.returns-then-not-are_known
-returns-then-not-are_known c =
-    let old : StateParts = record { lines = c.args.lines; targets = c.args.targets.now } in
-    let unknown : list_all (λ e. list_any (λ t. bytes_eq e.target t.name) old.targets) c.args.change.now.entries ≡ false =
-    rw (c.are_known.ensures, c.entries.ensures) at c.if-not-are_known.true in
-    nowhere-unknown c.args.change.now old unknown
+pub targets_after-requires-clause-are : goal.targets_after-requires-clause-are
+targets_after-requires-clause-are c = state-targets (record { lines = c.args.lines; targets = c.args.targets.now }) c.requires
+
+pub targets_after-requires-clause-some : goal.targets_after-requires-clause-some
+targets_after-requires-clause-some c = c.requires.some
 
 pub returns-in_default : goal.returns-in_default
 returns-in_default c =
@@ -42,14 +39,12 @@ exchanged_lines-requires-clause-put c =
 
 pub returns : goal.returns
 returns c =
-    let known : list_all (λ e. list_any (λ t. bytes_eq e.target t.name) c.args.targets.now) c.args.change.now.entries ≡ true =
-    rw (c.are_known.ensures, c.entries.ensures) at c.if-not-are_known.false in
     let moved = rw c.in-Some.is at c.in_ok-targets.ensures in
     let gone = rw (c.in-Some-2.is, c.as_slice.ensures, c.splices-splices.ensures) at c.in_ok-gone.ensures in
     let put = rw (c.in-Some-3.is, c.splices-splices.ensures) at c.in_ok-put.ensures in
     let lines = rw c.splices-splices.ensures at c.in_ok-lines.ensures in
     record {
-      after = record { lines = lines; targets = moved.0; known = known-from c.args.targets.now c.args.change.now.entries known };
+      after = record { lines = lines; targets = moved };
       gone_is = gone.0;
       put_is = put;
       ended = rw c.as_slice-2.ensures at c.is_last_ended-was_ended.ensures;
