@@ -1,16 +1,13 @@
 -- What an edit leads to, from the state that its lines were locked as.
 use Rattle.std.proofs.Common.{◌≡◌, ◌⊎◌, ℕ, List, [], ◌∷◌, None, Ok, Err, map, refl, subst, inl, inr}
-use Rattle.std.specs.List.{AllZip}
-use Rattle.changes.specs.Changes.{IsSameTarget}
 use Rattle.states.specs.Pool.{PoolParts}
 use Rattle.states.specs.StateParts.{StateParts}
-use Rattle.states.specs.Locks.{IsLocked, IsTargetLocked, given_for}
+use Rattle.states.specs.Locks.{IsLocked, given_for}
 use Rattle.states.specs.declared.locks.Unlocked.{Unlocked}
 use Rattle.states.specs.declared.refusal.Refusal.{Refusal}
 use Rattle.states.specs.declared.refusal.Refusal.TheVariants.{NothingChanges, OutOfMemory}
-use Rattle.states.specs.declared.target.Target.{Target}
-use Rattle.edits.specs.Edits.{EditResult, Locks, lines_after, problem_for, problems_after, refusal_of}
-use Rattle.edits.specs.Tied.KeptVersions.{kept_for, kept_of}
+use Rattle.edits.specs.Edits.{EditResult, Locks, lines_after, problems_after, problems_over, refusal_of}
+use Rattle.edits.specs.Tied.KeptVersions.{kept_after, kept_of}
 use Rattle.edits.specs.Refused.{or_refused, refused_by_lines, refused_by_locks}
 use Rattle.edits.specs.declared.request.Edit.{Edit}
 use Rattle.edits.proofs.KeepFacts.{givens-after}
@@ -20,14 +17,7 @@ use Rattle.edits.proofs.Refusals.{accepted}
 pub record IsAccepted (state : StateParts) (edit : Edit) (pool : PoolParts) (lines : List (List ℕ)) (all : List Unlocked) : Type 0 where
   pub lines_are : or_refused (refused_by_lines state.lines edit) (lines_after state.lines edit) ≡ Ok lines
   pub locks : refused_by_locks state.targets edit ≡ None
-  pub kept : map kept_of all ≡ map (kept_for pool.index edit) state.targets
-
-from-locked : (lines : List (List ℕ)) (edit : Edit) (pool : PoolParts) (old new : List Target) → AllZip IsTargetLocked (map (problem_for lines edit pool) old) new
-    → AllZip IsSameTarget old new
-from-locked lines edit pool [] [] zip = zip
-from-locked lines edit pool [] (y ∷ ys) zip = zip
-from-locked lines edit pool (x ∷ xs) [] zip = zip
-from-locked lines edit pool (x ∷ xs) (y ∷ ys) zip = (record { name = zip.0.name; environment = zip.0.environment }, from-locked lines edit pool xs ys zip.1)
+  pub kept : map kept_of all ≡ kept_after pool.index state.targets edit
 
 module _ (state : StateParts) (edit : Edit) (pool : PoolParts) (lines : List (List ℕ)) (all : List Unlocked) (a : IsAccepted state edit pool lines all) where
   -- its problems are those of the definition
@@ -40,7 +30,7 @@ module _ (state : StateParts) (edit : Edit) (pool : PoolParts) (lines : List (Li
   pub nothing-changes : (edited : StateParts) → IsLocked (map (given_for lines pool) all) lines edited → edited ≡ state → EditResult state edit pool (Err NothingChanges)
   nothing-changes edited locked same =
       let k = accepted (refused_by_lines state.lines edit) (lines_after state.lines edit) lines a.lines_are in
-      let old : IsLocked (map (problem_for lines edit pool) state.targets) lines state =
+      let old : IsLocked (problems_over lines state.targets edit pool) lines state =
       rw (← givens-after lines edit pool state.targets all a.kept) (subst (IsLocked (map (given_for lines pool) all) lines) same locked) in
       rw (k.0, a.locks, k.1) (inr (refl, old))
 
@@ -48,7 +38,7 @@ module _ (state : StateParts) (edit : Edit) (pool : PoolParts) (lines : List (Li
   pub changes : (edited : StateParts) → IsLocked (map (given_for lines pool) all) lines edited → (edited ≡ state → ⊥) → EditResult state edit pool (Ok edited)
   changes edited locked other =
       let k = accepted (refused_by_lines state.lines edit) (lines_after state.lines edit) lines a.lines_are in
-      let new : IsLocked (map (problem_for lines edit pool) state.targets) lines edited = rw (← givens-after lines edit pool state.targets all a.kept) locked in
+      let new : IsLocked (problems_over lines state.targets edit pool) lines edited = rw (← givens-after lines edit pool state.targets all a.kept) locked in
       rw (k.0, a.locks, k.1) (new, λ e. other cc)
 
   unsolved : (refusal : Refusal) → Locks None (map (given_for lines pool) all) lines (Err refusal) → EditResult state edit pool (Err refusal)
@@ -62,10 +52,3 @@ module _ (state : StateParts) (edit : Edit) (pool : PoolParts) (lines : List (Li
       → (refusal ≡ OutOfMemory) ⊎ EditResult state edit pool (Err refusal)
   refused-so refusal (inl memory) = inl memory
   refused-so refusal (inr refused) = inr (unsolved refusal refused)
-
-  -- the targets of the new state are those of the old one
-  pub same-targets : (edited : StateParts) → IsLocked (map (given_for lines pool) all) lines edited → AllZip IsSameTarget state.targets edited.targets
-  same-targets edited locked =
-      let zip : AllZip IsTargetLocked (map (problem_for lines edit pool) state.targets) edited.targets =
-      rw (← givens-after lines edit pool state.targets all a.kept) locked.targets in
-      from-locked lines edit pool state.targets edited.targets zip

@@ -1,5 +1,6 @@
 -- Targets before they are locked, and the problems that they are given.
-use Rattle.std.proofs.Common.{◌≡◌, ◌≢◌, ◌∙◌, ℕ, List, [], ◌∷◌, map, refl, sym, ap}
+use Rattle.std.proofs.Common.{◌≡◌, ◌≢◌, ◌∙◌, ℕ, true, List, [], ◌∷◌, map, refl, sym, ap}
+use Rattle.lists.specs.Rising.{rises}
 use Rattle.markers.specs.Environment.{Texts}
 use Rattle.snapshot.specs.Packages.{Index}
 use Rattle.problems.specs.Problem.{ProblemParts}
@@ -7,10 +8,12 @@ use Rattle.states.specs.Locks.{given_for, given_of}
 use Rattle.states.specs.Pool.{PoolParts, whole}
 use Rattle.states.specs.declared.locks.Unlocked.{Unlocked}
 use Rattle.states.specs.declared.target.Target.{Target}
-use Rattle.edits.specs.Edits.{first_problem, problem_for}
-use Rattle.edits.specs.Tied.KeptVersions.{Kept, kept_first, kept_for, kept_of}
+use Rattle.edits.specs.Edits.{first_problem, problem_for, problem_retargeted, problems_over}
+use Rattle.edits.specs.Tied.KeptVersions.{Kept, kept_after, kept_first, kept_for, kept_named, kept_of}
+use Rattle.edits.specs.Tied.Retargeting.{AreNamed}
 use Rattle.edits.specs.declared.pins.TargetPins.{TargetPins}
 use Rattle.edits.specs.declared.request.Edit.{Edit}
+use Rattle.edits.specs.declared.request.Edit.TheVariants.{Add, Constrain, Relock, Remove, Replace, Retarget, Upgrade, UpgradeAll}
 
 -- the problem of a name, an environment and versions that are kept
 abbrev given_from : List (List ℕ) → PoolParts → Kept → List ℕ × ProblemParts
@@ -26,11 +29,30 @@ given-parts : (lines : List (List ℕ)) (pool : PoolParts) (all : List Unlocked)
 given-parts lines pool all = through (given_from lines pool) kept_of (given_for lines pool) (λ u. refl) all
 
 -- the problems of targets that an edit leaves
-pub givens-after : (lines : List (List ℕ)) (edit : Edit) (pool : PoolParts) (targets : List Target) (all : List Unlocked) → map kept_of all ≡ map (kept_for pool.index edit) targets
+givens-left : (lines : List (List ℕ)) (edit : Edit) (pool : PoolParts) (targets : List Target) (all : List Unlocked) → map kept_of all ≡ map (kept_for pool.index edit) targets
     → map (given_for lines pool) all ≡ map (problem_for lines edit pool) targets
-givens-after lines edit pool targets all kept =
+givens-left lines edit pool targets all kept =
     given-parts lines pool all ∙ ap (map (given_from lines pool)) kept
     ∙ sym (through (given_from lines pool) (kept_for pool.index edit) (problem_for lines edit pool) (λ t. refl) targets)
+
+-- the problems of targets that are named for a retarget
+givens-named : (lines : List (List ℕ)) (present : List Target) (pins : List TargetPins) (pool : PoolParts) (given : List (List ℕ × Texts)) (all : List Unlocked)
+    → map kept_of all ≡ map (kept_named pool.index present pins) given → map (given_for lines pool) all ≡ map (problem_retargeted lines present pins pool) given
+givens-named lines present pins pool given all kept =
+    given-parts lines pool all ∙ ap (map (given_from lines pool)) kept
+    ∙ sym (through (given_from lines pool) (kept_named pool.index present pins) (problem_retargeted lines present pins pool) (λ g. refl) given)
+
+-- the problems of the targets that an edit leads to
+pub givens-after : (lines : List (List ℕ)) (edit : Edit) (pool : PoolParts) (present : List Target) (all : List Unlocked) → map kept_of all ≡ kept_after pool.index present edit
+    → map (given_for lines pool) all ≡ problems_over lines present edit pool
+givens-after lines (Add text) pool present all kept = givens-left lines (Add text) pool present all kept
+givens-after lines (Remove name) pool present all kept = givens-left lines (Remove name) pool present all kept
+givens-after lines (Constrain name specifiers) pool present all kept = givens-left lines (Constrain name specifiers) pool present all kept
+givens-after lines (Upgrade names) pool present all kept = givens-left lines (Upgrade names) pool present all kept
+givens-after lines UpgradeAll pool present all kept = givens-left lines UpgradeAll pool present all kept
+givens-after lines Relock pool present all kept = givens-left lines Relock pool present all kept
+givens-after lines (Replace new pins) pool present all kept = givens-left lines (Replace new pins) pool present all kept
+givens-after lines (Retarget given pins) pool present all kept = givens-named lines present pins pool given all kept
 
 -- the problems of named environments at the beginning
 pub givens-first : (lines : List (List ℕ)) (pins : List TargetPins) (index : Index) (pool : PoolParts) (targets : List (List ℕ × Texts)) (all : List Unlocked) → pool ≡ whole index → map kept_of all ≡ map (kept_first index pins) targets
@@ -43,9 +65,14 @@ name-parts : (all : List Unlocked) → map (λ u. u.name) all ≡ map (λ (k : K
 name-parts all = through (λ (k : Kept). k.0) kept_of (λ u. u.name) (λ u. refl) all
 
 -- the names of targets that an edit leaves are theirs
-pub names-after : (index : Index) (edit : Edit) (targets : List Target) (all : List Unlocked) → map kept_of all ≡ map (kept_for index edit) targets → map (λ u. u.name) all ≡ map (λ t. t.name) targets
-names-after index edit targets all kept =
+names-left : (index : Index) (edit : Edit) (targets : List Target) (all : List Unlocked) → map kept_of all ≡ map (kept_for index edit) targets → map (λ u. u.name) all ≡ map (λ t. t.name) targets
+names-left index edit targets all kept =
     name-parts all ∙ ap (map (λ (k : Kept). k.0)) kept ∙ sym (through (λ (k : Kept). k.0) (kept_for index edit) (λ t. t.name) (λ t. refl) targets)
+
+names-named : (index : Index) (present : List Target) (pins : List TargetPins) (given : List (List ℕ × Texts)) (all : List Unlocked) → map kept_of all ≡ map (kept_named index present pins) given
+    → map (λ u. u.name) all ≡ map (λ p. p.0) given
+names-named index present pins given all kept =
+    name-parts all ∙ ap (map (λ (k : Kept). k.0)) kept ∙ sym (through (λ (k : Kept). k.0) (kept_named index present pins) (λ (p : List ℕ × Texts). p.0) (λ g. refl) given)
 
 pub names-first : (index : Index) (pins : List TargetPins) (targets : List (List ℕ × Texts)) (all : List Unlocked) → map kept_of all ≡ map (kept_first index pins) targets → map (λ u. u.name) all ≡ map (λ p. p.0) targets
 names-first index pins targets all kept =
@@ -56,3 +83,19 @@ pub some-kept : {A : Type 0} (f : A → Kept) (targets : List A) (all : List Unl
 some-kept f [] all kept some = absurd (some refl)
 some-kept f (t ∷ targets) [] kept some = λ none. cc
 some-kept f (t ∷ targets) (u ∷ all) kept some = λ none. cc
+
+-- the targets that an edit leads to are some, and their names rise
+module _ (index : Index) (present : List Target) (all : List Unlocked) (some : present ≢ []) (rising : rises (map (λ t. t.name) present) ≡ true) where
+  left-after : (edit : Edit) → map kept_of all ≡ map (kept_for index edit) present → (all ≢ []) × (rises (map (λ u. u.name) all) ≡ true)
+  left-after edit kept = (some-kept (kept_for index edit) present all kept some, ap rises (names-left index edit present all kept) ∙ rising)
+
+  pub are-after : (edit : Edit) → AreNamed edit → map kept_of all ≡ kept_after index present edit → (all ≢ []) × (rises (map (λ u. u.name) all) ≡ true)
+  are-after (Add text) named kept = left-after (Add text) kept
+  are-after (Remove name) named kept = left-after (Remove name) kept
+  are-after (Constrain name specifiers) named kept = left-after (Constrain name specifiers) kept
+  are-after (Upgrade names) named kept = left-after (Upgrade names) kept
+  are-after UpgradeAll named kept = left-after UpgradeAll kept
+  are-after Relock named kept = left-after Relock kept
+  are-after (Replace new pins) named kept = left-after (Replace new pins) kept
+  are-after (Retarget given pins) named kept =
+      (some-kept (kept_named index present pins) given all kept named.0, ap rises (names-named index present pins given all kept) ∙ named.1)

@@ -1,12 +1,13 @@
 -- What edits lead to. All of it is reqlock's own rule.
 use Rattle.std.specs.Prelude.{◌≡◌, ◌≢◌, ◌⊎◌, ℕ, not, List, [], map, filter, Option, Some, None, IsSomeAnd, Result, Ok, Err}
 use Rattle.std.specs.List.{list_any}
-use Rattle.std.specs.Option.{option_or}
+use Rattle.std.specs.Option.{option_map_or, option_or}
 use Rattle.std.specs.Str.{bytes_eq}
 use Rattle.markers.specs.Environment.{Texts}
 use Rattle.markers.specs.Names.{normal_of}
 use Rattle.pep440.specs.Version.{VersionParts}
 use Rattle.pep508.specs.Parts.{trim}
+use Rattle.changes.specs.Changes.{target_on}
 use Rattle.snapshot.specs.Packages.{Index}
 use Rattle.problems.specs.Problem.{ProblemParts}
 use Rattle.states.specs.Pool.{PoolParts, whole}
@@ -17,9 +18,9 @@ use Rattle.edits.specs.Addition.{with_line}
 use Rattle.edits.specs.LinesOnName.{with_set_on, without_line}
 use Rattle.edits.specs.Refused.{refused_by_lines, refused_by_locks}
 use Rattle.edits.specs.declared.request.Edit.{Edit}
-use Rattle.edits.specs.Pins.{newer_of, pins_for}
+use Rattle.edits.specs.Pins.{newer_of, pins_for, with_all_agreed}
 use Rattle.edits.specs.declared.pins.TargetPins.{TargetPins}
-use Rattle.edits.specs.declared.request.Edit.TheVariants.{Add, Constrain, Remove, Replace, Upgrade, UpgradeAll}
+use Rattle.edits.specs.declared.request.Edit.TheVariants.{Add, Constrain, Remove, Replace, Retarget, Upgrade, UpgradeAll}
 use Rattle.states.specs.declared.refusal.Refusal.{Refusal}
 use Rattle.states.specs.declared.refusal.Refusal.TheVariants.{NoSolution, NothingChanges}
 
@@ -76,9 +77,25 @@ kept_pins index target edit = versions_of target.lock.entries
 abbrev pub problem_for : List (List ℕ) → Edit → PoolParts → Target → List ℕ × ProblemParts
 problem_for lines edit pool target = (target.name, given_of lines target.environment pool (kept_pins pool.index target edit))
 
--- the problems of an edit, one for each target
+-- the versions that a target keeps which is named for a retarget: one whose name is there already keeps those of its lock; another one
+-- those that are handed in for it, and of the names that these lack what the targets that are there have locked, where none
+-- contradicts it
+abbrev pub kept_retargeted : Index → List Target → List TargetPins → List ℕ × Texts → List (List ℕ × VersionParts)
+kept_retargeted index present pins given =
+    option_map_or (λ (t : Target). versions_of t.lock.entries) (target_on present given.0) (with_all_agreed present (newer_of index [] (pins_for pins given.0)))
+
+-- its problem, under its name
+abbrev pub problem_retargeted : List (List ℕ) → List Target → List TargetPins → PoolParts → List ℕ × Texts → List ℕ × ProblemParts
+problem_retargeted lines present pins pool given = (given.0, given_of lines given.1 pool (kept_retargeted pool.index present pins given))
+
+-- the problems of an edit with these lines, one for each target: of a retarget for those that it names, else for those that are there
+abbrev pub problems_over : List (List ℕ) → List Target → Edit → PoolParts → List (List ℕ × ProblemParts)
+problems_over lines present (Retarget given pins) pool = map (problem_retargeted lines present pins pool) given
+problems_over lines present edit pool = map (problem_for lines edit pool) present
+
+-- the problems of an edit
 abbrev pub problems_after : StateParts → Edit → PoolParts → List (List ℕ × ProblemParts)
-problems_after state edit pool = map (problem_for (lines_after state.lines edit) edit pool) state.targets
+problems_after state edit pool = problems_over (lines_after state.lines edit) state.targets edit pool
 
 -- this is answered where a refusal applies, and else what else is
 abbrev pub Unless : Option Refusal → (Result StateParts Refusal → Type 0) → Result StateParts Refusal → Type 0

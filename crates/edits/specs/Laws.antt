@@ -13,18 +13,17 @@ use Rattle.states.specs.Pool.{kept_alone, whole}
 use Rattle.states.specs.StateParts.{StateParts}
 use Rattle.states.specs.declared.refusal.Refusal.TheVariants.{NoSolution}
 use Rattle.states.specs.declared.target.Target.{Target}
-use Rattle.edits.specs.Edits.{EditResult, kept_pins, problems_after, refusal_of}
+use Rattle.edits.specs.Edits.{EditResult, problems_after, refusal_of}
 use Rattle.edits.specs.declared.request.Edit.{Edit}
 
--- of each name that both locks have, and whose version the edit doesn't drop, the new one has the old one's version
-abbrev pub KeepsPins : Index → Edit → Target → Target → Type 0
-KeepsPins index edit old new =
-    (name : List ℕ) (kept version : VersionParts) → version_for (kept_pins index old edit) name ≡ Some kept → version_for (versions_of new.lock.entries) name ≡ Some version
-    → same_version kept version ≡ true
+-- of each name whose version a problem keeps and that the lock has, it has that version
+abbrev pub KeepsPins : List ℕ × ProblemParts → Target → Type 0
+KeepsPins given target =
+    (name : List ℕ) (kept version : VersionParts) → version_for given.1.kept name ≡ Some kept → version_for (versions_of target.lock.entries) name ≡ Some version → same_version kept version ≡ true
 
 -- no edit over `kept_alone` moves a version that it keeps
 abbrev pub EditsKeepPins : Type 0
-EditsKeepPins = (state new : StateParts) (edit : Edit) (index : Index) → EditResult state edit (kept_alone index) (Ok new) → AllZip (KeepsPins index edit) state.targets new.targets
+EditsKeepPins = (state new : StateParts) (edit : Edit) (index : Index) → EditResult state edit (kept_alone index) (Ok new) → AllZip KeepsPins (problems_after state edit (kept_alone index)) new.targets
 
 -- some solution of the problem keeps all
 abbrev pub CanKeepAll : List ℕ × ProblemParts → Type 0

@@ -1,1 +1,2 @@
 pub mod KeptVersions
+pub mod Retargeting

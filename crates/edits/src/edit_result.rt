@@ -103,7 +103,9 @@ pub(crate) fn lines_after(alloc: Global, lines: &ReqFile, edit: &Edit) -> Result
         Edit::Remove(name) => removed(alloc, lines, name),
         Edit::Constrain(name, specifiers) => constrained(alloc, lines, name, specifiers),
         Edit::Replace(new, _) => Ok(new.clone()?),
-        Edit::Upgrade(_) | Edit::UpgradeAll | Edit::Relock => Ok(lines.clone()?),
+        Edit::Upgrade(_) | Edit::UpgradeAll | Edit::Relock | Edit::Retarget(_, _) => {
+            Ok(lines.clone()?)
+        }
     }
 }
 
@@ -139,7 +141,7 @@ pub(crate) fn problems_for<'a>(
 
 /// The problems whose best solutions the edit of the state would lock, over the pool: for each
 /// target, under its name and in the order of names, that of the lines after the edit, with the versions
-/// that the edit keeps of the target's lock. They may have no solution. Where lines and locks refuse the
+/// that the edit keeps for the target. They may have no solution. Where lines and locks refuse the
 /// edit, the first refusal is answered. The state stays.
 pub fn problem_after<'a>(
     alloc: Global,

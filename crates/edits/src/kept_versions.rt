@@ -4,7 +4,7 @@ ghost use Rattle.std.specs.Prelude.{◌≡◌, ◌≢◌, ◌⊎◌, [], map, If
 ghost use Rattle.std.specs.List.{list_any};
 ghost use Rattle.std.specs.Str.{bytes_eq};
 ghost use Rattle.edits.specs.Edits.{kept_pins, without_pins};
-ghost use Rattle.edits.specs.Tied.KeptVersions.{kept_first, kept_for, kept_of, named_in};
+ghost use Rattle.edits.specs.Tied.KeptVersions.{kept_after, kept_first, kept_for, kept_of, named_in};
 ghost use Rattle.edits.specs.Refused.{refused_by_locks};
 ghost use Rattle.lists.specs.Rising.{rises};
 ghost use Rattle.states.specs.declared.refusal.Refusal.TheVariants.{OutOfMemory};
@@ -12,6 +12,7 @@ ghost use Rattle.states.specs.declared.refusal.Refusal.TheVariants.{OutOfMemory}
 use crate::first_targets::FirstTargets;
 use crate::pins::{TargetPins, with_pins};
 use crate::request::Edit;
+use crate::retargeting::{each_named, recall_targets};
 use crate::upgrade::named_in;
 use lists::Seq;
 use pep440::Version;
@@ -55,7 +56,11 @@ fn kept_pins(
             let own = target.kept(alloc)?;
             with_pins(own, pool.snapshot, pins.as_slice(), &target.name)
         }
-        Edit::Add(_) | Edit::Remove(_) | Edit::Constrain(_, _) | Edit::Relock => target.kept(alloc),
+        Edit::Add(_)
+        | Edit::Remove(_)
+        | Edit::Constrain(_, _)
+        | Edit::Relock
+        | Edit::Retarget(_, _) => target.kept(alloc),
     }
 }
 
@@ -98,8 +103,30 @@ fn without_locks(
     Ok(Seq::from_vec(all))
 }
 
-/// The targets of the state, each with the versions that the edit keeps of its lock. Where locks refuse
-/// the edit, the first refusal is answered. The names of an upgrade are read once.
+/// The targets that the edit leads to, each with the versions that it keeps. Those of a retarget are the ones
+/// that it names.
+fn each_unlocked(
+    alloc: Global,
+    pool: &Pool<'_>,
+    targets: &[Target],
+    edit: &Edit,
+    names: &[Name],
+) -> Result<Seq<Unlocked>, AllocError>
+    requires { names.now ≡ named_in edit.now }
+    ensures { IfOk result
+        (λ all. map kept_of all ≡ kept_after pool.now.index targets.now edit.now) }
+{
+    match edit {
+        Edit::Retarget(given, pins) => {
+            let pins = pins.as_slice();
+            each_named(alloc, pool, targets, pins, given.as_slice())
+        }
+        _ => without_locks(alloc, pool, targets, edit, names),
+    }
+}
+
+/// The targets that the edit leads to, each with the versions that it keeps. Where locks refuse the edit, the
+/// first refusal is answered. The names of an upgrade are read once.
 pub(crate) fn unlocked(
     alloc: Global,
     state: &State,
@@ -108,15 +135,16 @@ pub(crate) fn unlocked(
 ) -> Result<Seq<Unlocked>, Refusal>
     ensures accepted { IfOk result (λ _. refused_by_locks state.now.targets edit.now ≡ None) }
     ensures kept { IfOk result
-        (λ all. map kept_of all ≡ map (kept_for pool.now.index edit.now) state.now.targets) }
+        (λ all. map kept_of all ≡ kept_after pool.now.index state.now.targets edit.now) }
     ensures some { IfOk result (λ all. all ≢ []) }
     ensures rising { IfOk result (λ all. rises (map (λ u. u.name) all) ≡ true) }
     ensures err { IfErr result (λ refusal. (refusal ≡ OutOfMemory)
         ⊎ (refused_by_locks state.now.targets edit.now ≡ Some refusal)) }
 {
     state.recall_invariant();
+    recall_targets(edit);
     let names = named_in(alloc, state.targets(), edit)?;
-    Ok(without_locks(alloc, pool, state.targets(), edit, names.as_slice())?)
+    Ok(each_unlocked(alloc, pool, state.targets(), edit, names.as_slice())?)
 }
 
 /// A named environment, with the versions that are handed in for it.

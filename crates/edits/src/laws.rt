@@ -18,8 +18,8 @@ use problems::laws::{
 };
 pub use states::laws::the_lock_of_a_problem_is_one;
 
-/// An edit over `kept_alone` moves no version that it keeps: of each name that both locks of a target have and
-/// that the edit doesn't free, the new lock has a version that equals the old one's.
+/// An edit over `kept_alone` moves no version that it keeps: of each name whose version it keeps for a target
+/// and that the target's new lock has, the new lock has a version that equals the kept one.
 pub fn an_edit_keeps_versions_without_others()
     ensures { EditsKeepPins }
 {

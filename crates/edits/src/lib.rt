@@ -23,6 +23,7 @@ mod questions;
 mod removal;
 mod replace_laws;
 mod request;
+mod retargeting;
 mod upgrade;
 
 pub use crate::edit_result::{edit, init, init_keeping, problem_after};
@@ -31,7 +32,7 @@ pub use crate::first_targets::FirstTargets;
 pub use crate::pins::TargetPins;
 pub use crate::questions::{problem_keeping, problems_of_init, problems_with};
 pub use crate::request::{Edit, Edited};
-pub use changes::{Change, DigestChange, EntryChange, Splice, difference};
+pub use changes::{Change, DigestChange, EntryChange, Splice, TargetChange, difference};
 pub use pep508::{Cause, Environment, Fault, Line, Name, ReqFile, Requirement};
 pub use pylock::{Entry, FileEntry, Lock};
 pub use resolve::{Learning, Plain, Problem, Resolver};

@@ -4,7 +4,7 @@ use crate::pins::TargetPins;
 use changes::Change;
 use lists::{Seq, Text};
 use pep508::ReqFile;
-use states::State;
+use states::{State, Targets};
 
 /// An edit of the requirements file. Names, lines and specifiers are texts that are read when the edit
 /// is made.
@@ -28,6 +28,11 @@ pub enum Edit {
     /// of those that are handed in for the target, of each name, the newest that the index has is kept, or
     /// else the newest.
     Replace(ReqFile, Seq<TargetPins>),
+    /// Locks the lines for these targets in the place of those that are there. A target whose name is there
+    /// already keeps the versions of its lock. Another one keeps those that are handed in for it, and of the
+    /// names that these lack what the targets that were there have locked, where they don't contradict one
+    /// another.
+    Retarget(Targets, Seq<TargetPins>),
 }
 
 /// What an accepted edit leads to.

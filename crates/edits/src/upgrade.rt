@@ -71,6 +71,7 @@ pub(crate) fn named_in(alloc: Global, targets: &[Target], edit: &Edit) -> Result
         | Edit::Constrain(_, _)
         | Edit::UpgradeAll
         | Edit::Relock
-        | Edit::Replace(_, _) => Ok(Seq::new(alloc)),
+        | Edit::Replace(_, _)
+        | Edit::Retarget(_, _) => Ok(Seq::new(alloc)),
     }
 }

@@ -12,11 +12,11 @@ use Rattle.snapshot.specs.Packages.{Index}
 use Rattle.problems.specs.Solutions.{version_for}
 use Rattle.states.specs.declared.locks.Unlocked.{Unlocked}
 use Rattle.states.specs.declared.target.Target.{Target}
-use Rattle.edits.specs.Edits.{kept_pins}
+use Rattle.edits.specs.Edits.{kept_pins, kept_retargeted}
 use Rattle.edits.specs.Pins.{newer_of, pin_cmp, pins_for}
 use Rattle.edits.specs.declared.pins.TargetPins.{TargetPins}
 use Rattle.edits.specs.declared.request.Edit.{Edit}
-use Rattle.edits.specs.declared.request.Edit.TheVariants.{Upgrade}
+use Rattle.edits.specs.declared.request.Edit.TheVariants.{Retarget, Upgrade}
 
 -- the names whose versions an upgrade drops
 abbrev pub named_in : Edit → List (List ℕ)
@@ -34,6 +34,15 @@ kept_of unlocked = (unlocked.name, (unlocked.environment, unlocked.kept.entries)
 -- those of a target that an edit leaves
 abbrev pub kept_for : Index → Edit → Target → Kept
 kept_for index edit target = (target.name, (target.environment, kept_pins index target edit))
+
+-- those of a target that is named for a retarget
+abbrev pub kept_named : Index → List Target → List TargetPins → List ℕ × Texts → Kept
+kept_named index present pins given = (given.0, (given.1, kept_retargeted index present pins given))
+
+-- those of all targets that an edit leads to
+abbrev pub kept_after : Index → List Target → Edit → List Kept
+kept_after index present (Retarget given pins) = map (kept_named index present pins) given
+kept_after index present edit = map (kept_for index edit) present
 
 -- those of a named environment at the beginning, of these that are handed in
 abbrev pub kept_first : Index → List TargetPins → List ℕ × Texts → Kept
