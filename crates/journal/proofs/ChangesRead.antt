@@ -1,29 +1,36 @@
 -- What a change of a history has is read back: its entries are those of lawful locks.
-use Rattle.std.proofs.Common.{◌≡◌, ◌≢◌, ℕ, suc, zero, true, Ok, List, [], ◌∷◌, map, Option, Some, None, refl, sym, subst, ◌∙◌, inl, inr}
+use Rattle.std.proofs.Common.{◌≡◌, ◌≢◌, ℕ, suc, zero, true, Ok, List, [], ◌∷◌, map, Option, Some, None, refl, sym, subst, ◌∙◌}
 use Rattle.std.specs.Prelude.{slice_get}
-use Rattle.std.specs.List.{AllByRecursion, AllZip, Contains}
+use Rattle.std.specs.List.{AllByRecursion, Contains}
 use Rattle.std.specs.Str.{bytes_eq}
 use Rattle.std.proofs.lemmas.Slice.Eq.{bytes_eq-Decides}
 use Rattle.std.proofs.lemmas.List.Elements.{All-contains, All-from_recursion}
-use Rattle.lists.proofs.Members.{Contains-cons_cases, Contains-filter_of, Contains-here, Contains-nil, Contains-there}
+use Rattle.lists.proofs.Members.{Contains-filter_of, Contains-here, Contains-there}
 use Rattle.markers.specs.Names.{is_normal}
 use Rattle.pylock.specs.Locks.{IsLock, LockParts}
 use Rattle.pylock.specs.Packages.{EntryParts, IsPackage}
 use Rattle.pylock.proofs.PackageFacts.{parts}
-use Rattle.changes.specs.Changes.{ChangeParts, ChangesDigest, ChangesTarget, IsEntryChange, IsMinimal}
+use Rattle.changes.specs.Changes.{ChangeParts, ChangesDigest, ChangesTargets, IsEntryChange, IsMinimal, entries_in, target_on}
 use Rattle.changes.specs.declared.change.parts.DigestChange.{DigestChange}
 use Rattle.changes.specs.declared.change.parts.EntryChange.{EntryChange}
+use Rattle.changes.proofs.ByName.{on-from}
+use Rattle.changes.proofs.ChangeFacts.{names-stay}
+use Rattle.changes.proofs.TargetsByName.{digest-on, entries-on, stays-from}
 use Rattle.states.specs.State.{IsLockFor, IsState, entry_on}
+use Rattle.states.specs.StateParts.{digest_of}
 use Rattle.states.specs.TargetNames.{is_target_name}
 use Rattle.states.proofs.EntryFacts.{entry-from}
+use Rattle.states.proofs.PartFacts.{All-member}
 use Rattle.journal.specs.Values.{State, Target}
 use Rattle.journal.specs.Changes.{AreSteps, IsChange}
-use Rattle.journal_format.specs.Lines.{has_target, step_in}
+use Rattle.journal_format.specs.Lines.{has_target, may_name, step_in}
+use Rattle.journal_format.specs.Tied.LawfulTargets.{IsLawfulStep}
 use Rattle.journal_format.specs.Written.{step_data}
 use Rattle.journal_format.specs.declared.header.Header.{Header}
-use Rattle.journal_format.specs.declared.header.JournalVersion.TheVariants.{Two}
+use Rattle.journal_format.specs.declared.header.JournalVersion.{JournalVersion}
+use Rattle.journal_format.specs.declared.header.JournalVersion.TheVariants.{One, Three, Two}
 use Rattle.pylock.proofs.CanonicalBack.{ReadsVersions}
-use Rattle.journal_format.proofs.StepsBack.{AreDigests, IsDigest, IsEntryOn, IsLawfulChange, step-back}
+use Rattle.journal_format.proofs.StepsBack.{AreDigests, HasTargets, IsDigest, IsEntryOn, IsLawfulChange, step-back}
 
 entry-on : (entries : List EntryParts) (name : List ℕ) (o : Option EntryParts) → AllByRecursion IsPackage entries → entry_on entries name ≡ o → IsEntryOn name o
 entry-on entries name None all at = tt
@@ -42,39 +49,37 @@ normal_by name None None h g other = absurd (other refl)
 abbrev pub HasLawfulLock : Target → Type 0
 HasLawfulLock target = IsLock target.lock
 
--- the names of targets that a change leads to are those that it leads from
-pub names-kept : (change : ChangeParts) (olds news : List Target) → AllZip (ChangesTarget change) olds news → map (λ t. t.name) news ≡ map (λ t. t.name) olds
-names-kept change [] [] h = refl
-names-kept change [] (n ∷ news) h = absurd h
-names-kept change (o ∷ olds) [] h = absurd h
-names-kept change (o ∷ olds) (n ∷ news) h = λ i. h.0.same.name i ∷ names-kept change olds news h.1 i
-
 digest-of : (l : LockParts) → IsLock l → IsDigest l.snapshot
 digest-of l h = record { size = h.length; bytes = h.bytes }
 
-digests-of : (digests : Option DigestChange) (old new : LockParts) → IsLock old → IsLock new → ChangesDigest digests old.snapshot new.snapshot → AreDigests digests
+first-digest : (targets : List Target) → targets ≢ [] → AllByRecursion HasLawfulLock targets → IsDigest (digest_of targets)
+first-digest [] some all = absurd (some refl)
+first-digest (t ∷ rest) some all = digest-of t.lock all.0
+
+digests-of : (digests : Option DigestChange) (old new : List ℕ) → IsDigest old → IsDigest new → ChangesDigest digests old new → AreDigests digests
 digests-of None old new h g is = tt
-digests-of (Some d) old new h g is = (subst IsDigest is.0 (digest-of old h), subst IsDigest is.1 (digest-of new g))
+digests-of (Some d) old new h g is = (subst IsDigest is.0 h, subst IsDigest is.1 g)
+
+-- the entries on a name are lawful
+found-lawful : (targets : List Target) (name : List ℕ) (found : Option Target) → AllByRecursion HasLawfulLock targets → target_on targets name ≡ found → AllByRecursion IsPackage (entries_in found)
+found-lawful targets name None all is = tt
+found-lawful targets name (Some t) all is = (All-member HasLawfulLock targets t all (on-from (λ (u : Target). u.name) targets name t is).0).entries
 
 module _ (change : ChangeParts) where
-  -- an entry's change is that of a lawful entry, where its target is one of these
-  on-target : (c : EntryChange) (olds news : List Target) → AllZip (ChangesTarget change) olds news → AllByRecursion HasLawfulLock olds → AllByRecursion HasLawfulLock news
-      → Contains (map (λ t. t.name) olds) c.target → Contains change.entries c → IsEntryOn c.name c.old × IsEntryOn c.name c.new
-  on-target c [] news h old_all new_all known there = absurd (Contains-nil c.target known)
-  on-target c (o ∷ olds) [] h old_all new_all known there = absurd h
-  on-target c (o ∷ olds) (n ∷ news) h old_all new_all known there = elim (Contains-cons_cases o.name (map (λ t. t.name) olds) c.target known) [
-    | inl same ↦
-        let mine : bytes_eq o.name c.target ≡ true = (bytes_eq-Decides o.name c.target).1 same in
-        let at = h.0.lock.entries.changed c (Contains-filter_of (λ d. bytes_eq o.name d.target) change.entries c there mine) in
-        (entry-on o.lock.entries c.name c.old old_all.0.entries at.0, entry-on n.lock.entries c.name c.new new_all.0.entries at.1)
-    | inr more ↦ on-target c olds news h.1 old_all.1 new_all.1 more there
-  ]
+  -- an entry's change is that of a lawful entry
+  on-target : (c : EntryChange) (olds news : List Target) → ChangesTargets change.targets change olds news → AllByRecursion HasLawfulLock olds → AllByRecursion HasLawfulLock news → Contains change.entries c
+      → IsEntryOn c.name c.old × IsEntryOn c.name c.new
+  on-target c olds news leads old_all new_all there =
+      let mine : bytes_eq c.target c.target ≡ true = (bytes_eq-Decides c.target c.target).1 refl in
+      let at = (entries-on change.targets change olds news c.target leads).changed c (Contains-filter_of (λ (d : EntryChange). bytes_eq c.target d.target) change.entries c there mine) in (
+        entry-on (entries_in (target_on olds c.target)) c.name c.old (found-lawful olds c.target (target_on olds c.target) old_all refl) at.0,
+        entry-on (entries_in (target_on news c.target)) c.name c.new (found-lawful news c.target (target_on news c.target) new_all refl) at.1,
+      )
 
   -- both digests of the change are those of lawful locks
-  pub on-first : (olds news : List Target) → olds ≢ [] → AllZip (ChangesTarget change) olds news → AllByRecursion HasLawfulLock olds → AllByRecursion HasLawfulLock news → AreDigests change.digests
-  on-first [] news some h old_all new_all = absurd (some refl)
-  on-first (o ∷ olds) [] some h old_all new_all = absurd h
-  on-first (o ∷ olds) (n ∷ news) some h old_all new_all = digests-of change.digests o.lock n.lock old_all.0 new_all.0 h.0.lock.digest
+  pub on-first : (olds news : List Target) → olds ≢ [] → news ≢ [] → ChangesTargets change.targets change olds news → AllByRecursion HasLawfulLock olds → AllByRecursion HasLawfulLock news → AreDigests change.digests
+  on-first olds news some some_new leads old_all new_all =
+      digests-of change.digests (digest_of olds) (digest_of news) (first-digest olds some old_all) (first-digest news some_new new_all) (digest-on change.targets change olds news some leads)
 
 -- ---- states
 
@@ -87,73 +92,103 @@ locks-lawful lines (t ∷ ts) all = (all.0.lawful, locks-lawful lines ts all.1)
 abbrev pub names_of : State → List (List ℕ)
 names_of state = map (λ t. t.name) state.targets
 
--- what a header has to know of the names of targets, so that the steps behind it are read back
-pub record Knows (header : Header) (names : List (List ℕ)) : Type 0 where
-  pub version : header.version ≡ Two
-  pub lawful : (name : List ℕ) → Contains names name → is_target_name name ≡ true
-  pub known : (name : List ℕ) → Contains names name → has_target header name ≡ true
+-- each entry of a change may be of its target behind a header
+abbrev pub MayName : Header → ChangeParts → Type 0
+MayName header change = AllByRecursion (λ c. may_name header.version header c.target ≡ true) change.entries
 
 -- a minimal change that is read back behind this header
 pub record IsRead (header : Header) (change : ChangeParts) : Type 0 where
   pub minimal : IsMinimal change
   pub back : step_in header (step_data change) ≡ Ok change
 
-module _ (reads : ReadsVersions) (header : Header) where
-  pub lawful-changes : (old : State) (change : ChangeParts) (new : State) → Knows header (names_of old) → IsState old → IsState new → IsChange old change new
-      → (cs : List EntryChange) → ((c : EntryChange) → Contains cs c → Contains change.entries c) → AllByRecursion (λ c. Contains (names_of old) c.target) cs → AllByRecursion IsEntryChange cs
-      → AllByRecursion (IsLawfulChange header) cs
-  lawful-changes old change new knows h g is [] from known each = tt
-  lawful-changes old change new knows h g is (c ∷ cs) from known each =
-      let both = on-target change c old.targets new.targets is.leads.targets (locks-lawful old.lines old.targets h.locks) (locks-lawful new.lines new.targets g.locks) known.0 (from c (Contains-here c cs)) in (
+module _ (header : Header) where
+  pub lawful-changes : (old : State) (change : ChangeParts) (new : State) → IsState old → IsState new → IsChange old change new → (cs : List EntryChange) → ((c : EntryChange) → Contains cs c → Contains change.entries c)
+      → AllByRecursion (λ c. is_target_name c.target ≡ true) cs → AllByRecursion (λ c. may_name header.version header c.target ≡ true) cs → AllByRecursion IsEntryChange cs → AllByRecursion (IsLawfulChange header) cs
+  lawful-changes old change new h g is [] from named may each = tt
+  lawful-changes old change new h g is (c ∷ cs) from named may each =
+      let both = on-target change c old.targets new.targets is.leads.targets (locks-lawful old.lines old.targets h.locks) (locks-lawful new.lines new.targets g.locks) (from c (Contains-here c cs)) in (
         record {
-          target = knows.lawful c.target known.0;
-          known = knows.known c.target known.0;
+          target = named.0;
+          known = may.0;
           name = normal_by c.name c.old c.new both.0 both.1 each.0.other;
           old = both.0;
           new = both.1;
         },
-        lawful-changes old change new knows h g is cs (λ d there. from d (Contains-there c cs d there)) known.1 each.1,
+        lawful-changes old change new h g is cs (λ d there. from d (Contains-there c cs d there)) named.1 may.1 each.1,
       )
 
   -- a change from one state to another is read back
-  change-back : (old : State) (change : ChangeParts) (new : State) → Knows header (names_of old) → IsState old → IsState new → IsChange old change new → step_in header (step_data change) ≡ Ok change
-  change-back old change new knows h g is =
-      step-back reads header knows.version change
-      (lawful-changes old change new knows h g is change.entries (λ c there. there) is.leads.known is.minimal.entries.each)
-      (on-first change old.targets new.targets h.some is.leads.targets (locks-lawful old.lines old.targets h.locks) (locks-lawful new.lines new.targets g.locks))
+  change-back : ReadsVersions → (old : State) (change : ChangeParts) (new : State) → HasTargets header.version change.targets → IsLawfulStep change → MayName header change → IsState old → IsState new → IsChange old change new
+      → step_in header (step_data change) ≡ Ok change
+  change-back reads old change new has lawful may h g is =
+      step-back reads header change has lawful.targets (lawful-changes old change new h g is change.entries (λ c there. there) lawful.entries may is.minimal.entries.each)
+      (on-first change old.targets new.targets h.some g.some is.leads.targets (locks-lawful old.lines old.targets h.locks) (locks-lawful new.lines new.targets g.locks))
 
   -- the changes of a history are read back
-  pub changes-read : (states : List State) (changes : List ChangeParts) → AreSteps states changes → AllByRecursion IsState states → AllByRecursion (λ s. Knows header (names_of s)) states → AllByRecursion (IsRead header) changes
-  changes-read [] changes steps lawful knows = absurd steps
-  changes-read (s ∷ []) [] steps lawful knows = tt
-  changes-read (s ∷ []) (c ∷ cs) steps lawful knows = absurd steps
-  changes-read (s ∷ t ∷ states) [] steps lawful knows = absurd steps
-  changes-read (s ∷ t ∷ states) (c ∷ cs) steps lawful knows =
-      (record { minimal = steps.0.minimal; back = change-back s c t knows.0 lawful.0 lawful.1.0 steps.0 }, changes-read (t ∷ states) cs steps.1 lawful.1 knows.1)
+  pub changes-read : ReadsVersions → (states : List State) (changes : List ChangeParts) → AreSteps states changes → AllByRecursion IsState states → AllByRecursion (λ c. HasTargets header.version c.targets) changes
+      → AllByRecursion IsLawfulStep changes → AllByRecursion (MayName header) changes → AllByRecursion (IsRead header) changes
+  changes-read reads [] changes steps lawful have named may = absurd steps
+  changes-read reads (s ∷ []) [] steps lawful have named may = tt
+  changes-read reads (s ∷ []) (c ∷ cs) steps lawful have named may = absurd steps
+  changes-read reads (s ∷ t ∷ states) [] steps lawful have named may = absurd steps
+  changes-read reads (s ∷ t ∷ states) (c ∷ cs) steps lawful have named may =
+      (record { minimal = steps.0.minimal; back = change-back reads s c t have.0 named.0 may.0 lawful.0 lawful.1.0 steps.0 }, changes-read reads (t ∷ states) cs steps.1 lawful.1 have.1 named.1 may.1)
 
--- ---- all states have the same targets
+-- ---- where no step has targets, all states have the same ones
 
-same-names-by : (states : List State) (changes : List ChangeParts) (first : State) (names : List (List ℕ)) → names_of first ≡ names → AreSteps (first ∷ states) changes
+same-names-by : (states : List State) (changes : List ChangeParts) (first : State) (names : List (List ℕ)) → AllByRecursion (λ c. c.targets ≡ []) changes → names_of first ≡ names → AreSteps (first ∷ states) changes
     → AllByRecursion (λ s. names_of s ≡ names) (first ∷ states)
-same-names-by [] changes first names is steps = (is, tt)
-same-names-by (t ∷ states) [] first names is steps = absurd steps
-same-names-by (t ∷ states) (c ∷ cs) first names is steps =
-    (is, same-names-by states cs t names (names-kept c first.targets t.targets steps.0.leads.targets ∙ is) steps.1)
+same-names-by [] changes first names stay is steps = (is, tt)
+same-names-by (t ∷ states) [] first names stay is steps = absurd steps
+same-names-by (t ∷ states) (c ∷ cs) first names stay is steps =
+    let each = (stays-from c.targets c first.targets t.targets stay.0 steps.0.leads.targets).each in
+    (is, same-names-by states cs t names stay.1 (names-stay c first.targets t.targets each ∙ is) steps.1)
 
 named-at : (states : List State) (n : ℕ) (state : State) (names : List (List ℕ)) → AllByRecursion (λ s. names_of s ≡ names) states → slice_get states n ≡ Some state → names_of state ≡ names
 named-at [] n state names all at = absurd cc
 named-at (s ∷ states) zero state names all at = let same : s ≡ state = cc in subst (λ (x : State). names_of x ≡ names) same all.0
 named-at (s ∷ states) (suc n) state names all at = named-at states n state names all.1 at
 
-know-by : (header : Header) (names : List (List ℕ)) → Knows header names → (states : List State) → AllByRecursion (λ s. names_of s ≡ names) states → AllByRecursion (λ s. Knows header (names_of s)) states
-know-by header names knows [] all = tt
-know-by header names knows (s ∷ states) all = (subst (Knows header) (sym all.0) knows, know-by header names knows states all.1)
+-- names that a header has may stand behind it
+may-by : (version : JournalVersion) (header : Header) (name : List ℕ) → has_target header name ≡ true → may_name version header name ≡ true
+may-by One header name is = is
+may-by Two header name is = is
+may-by Three header name is = refl
 
--- what a header knows of one state's targets it knows of those of all states of the history
-pub all-known : (header : Header) (states : List State) (changes : List ChangeParts) (n : ℕ) (state : State) → AreSteps states changes → slice_get states n ≡ Some state → Knows header (names_of state)
-    → AllByRecursion (λ s. Knows header (names_of s)) states
-all-known header [] changes n state steps at knows = absurd steps
-all-known header (s ∷ states) changes n state steps at knows =
-    let all = same-names-by states changes s (names_of s) refl steps in
+has-may : (header : Header) (name : List ℕ) → has_target header name ≡ true → may_name header.version header name ≡ true
+has-may header name is = may-by header.version header name is
+
+may-entries : (header : Header) (names : List (List ℕ)) → ((name : List ℕ) → Contains names name → has_target header name ≡ true) → (cs : List EntryChange) → AllByRecursion (λ c. Contains names c.target) cs
+    → AllByRecursion (λ c. may_name header.version header c.target ≡ true) cs
+may-entries header names known [] all = tt
+may-entries header names known (c ∷ cs) all = (has-may header c.target (known c.target all.0), may-entries header names known cs all.1)
+
+may-all : (header : Header) (names : List (List ℕ)) → ((name : List ℕ) → Contains names name → has_target header name ≡ true) → (states : List State) (changes : List ChangeParts) → AllByRecursion (λ c. c.targets ≡ []) changes
+    → AreSteps states changes → AllByRecursion (λ s. names_of s ≡ names) states → AllByRecursion (MayName header) changes
+may-all header names known [] changes stay steps all = absurd steps
+may-all header names known (s ∷ []) [] stay steps all = tt
+may-all header names known (s ∷ []) (c ∷ cs) stay steps all = absurd steps
+may-all header names known (s ∷ t ∷ states) [] stay steps all = absurd steps
+may-all header names known (s ∷ t ∷ states) (c ∷ cs) stay steps all =
+    let there = (stays-from c.targets c s.targets t.targets stay.0 steps.0.leads.targets).known in (
+      may-entries header names known c.entries (subst (λ (l : List (List ℕ)). AllByRecursion (λ (e : EntryChange). Contains l e.target) c.entries) all.0 there),
+      may-all header names known (t ∷ states) cs stay.1 steps.1 all.1,
+    )
+
+-- each entry of a history may be of its target behind a header that has the targets of one of its states
+pub all-may : (header : Header) (states : List State) (changes : List ChangeParts) (n : ℕ) (state : State) → AllByRecursion (λ c. c.targets ≡ []) changes → AreSteps states changes → slice_get states n ≡ Some state
+    → ((name : List ℕ) → Contains (names_of state) name → has_target header name ≡ true) → AllByRecursion (MayName header) changes
+all-may header [] changes n state stay steps at known = absurd steps
+all-may header (s ∷ states) changes n state stay steps at known =
+    let all = same-names-by states changes s (names_of s) stay refl steps in
     let same : names_of state ≡ names_of s = named-at (s ∷ states) n state (names_of s) all at in
-    know-by header (names_of s) (subst (Knows header) same knows) (s ∷ states) all
+    may-all header (names_of s) (λ name there. known name (subst (λ (l : List (List ℕ)). Contains l name) (sym same) there)) (s ∷ states) changes stay steps all
+
+any-entries : (header : Header) → header.version ≡ Three → (cs : List EntryChange) → AllByRecursion (λ c. may_name header.version header c.target ≡ true) cs
+any-entries header third [] = tt
+any-entries header third (c ∷ cs) = (subst (λ (v : JournalVersion). may_name v header c.target ≡ true) (sym third) refl, any-entries header third cs)
+
+-- in version 3 each may
+pub any-may : (header : Header) → header.version ≡ Three → (changes : List ChangeParts) → AllByRecursion (MayName header) changes
+any-may header third [] = tt
+any-may header third (c ∷ cs) = (any-entries header third c.entries, any-may header third cs)

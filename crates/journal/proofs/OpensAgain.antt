@@ -1,7 +1,8 @@
 -- A history that was saved opens again.
-use Rattle.std.proofs.Common.{◌≡◌, ◌≢◌, ℕ, zero, suc, ◌+◌, ◌<◌, true, List, [], ◌∷◌, ◌++◌, length, Option, None, Ok, refl, sym, ap, subst, ◌∙◌, inl, inr, arith}
+use Rattle.std.proofs.Common.{◌≡◌, ◌≢◌, ℕ, zero, suc, ◌+◌, ◌<◌, true, List, [], ◌∷◌, ◌++◌, length, Option, Some, None, Ok, refl, sym, ap, subst, ◌∙◌, inl, inr, arith}
 use Rattle.std.specs.Int.{byte_at, bytes_high_first, to_be_bytes, w32}
-use Rattle.std.specs.Prelude.{slice_index}
+use Rattle.std.specs.Prelude.{slice_get, slice_index}
+use Rattle.std.proofs.lemmas.Bool.{cases_Bool}
 use Rattle.std.proofs.lemmas.Option.{slice_get_within}
 use Rattle.std.specs.List.{AllByRecursion, AllZip, Contains, concat, flat_map}
 use Rattle.hex.specs.Hex.{IsBytes}
@@ -18,18 +19,21 @@ use Rattle.states.specs.State.{IsLockFor, IsState}
 use Rattle.states.specs.StateParts.{digest_of}
 use Rattle.states.specs.TargetNames.{is_target_name}
 use Rattle.journal.specs.Values.{State, Target}
-use Rattle.journal.specs.Changes.{HistoryParts}
+use Rattle.journal.specs.Changes.{AreSteps, HistoryParts}
 use Rattle.journal_format.specs.Forms.{json_of}
-use Rattle.journal_format.specs.Lines.{IsStepLine, are_targets, header_of_line, step_of_line}
+use Rattle.journal_format.specs.Lines.{IsStepLine, are_targets, has_target, header_of_line, step_of_line}
+use Rattle.journal_format.specs.Tied.LawfulTargets.{IsLawfulStep}
 use Rattle.journal_format.specs.Written.{header_data, line_of, step_data}
 use Rattle.journal.specs.Locks.{LockTexts, odd_lock}
 use Rattle.journal.specs.Tied.LocksWritten.{IsLawfulTarget, IsWrittenLock}
 use Rattle.journal.specs.Opens.{Agrees, BeginsWith, Fit, IsAnswer, NamesEnvironment, Opens, Present, StepLines}
-use Rattle.journal.specs.Saved.{IsSaved, OpensAs, header_for, targets_for}
+use Rattle.journal.specs.Saved.{IsSaved, OpensAs, header_for, stay_all, targets_for, version_for}
 use Rattle.journal.specs.Tied.{AreWritten, IsWritten}
 use Rattle.journal_format.specs.declared.header.Header.{Header}
+use Rattle.journal_format.specs.declared.header.JournalVersion.TheVariants.{One}
 use Rattle.journal.specs.declared.saved.Saved.{Saved}
-use Rattle.journal.proofs.ChangesRead.{IsRead, Knows, all-known, changes-read}
+use Rattle.journal.proofs.ChangesRead.{IsRead, MayName, all-may, any-may, changes-read}
+use Rattle.journal.proofs.SavedVersions.{all-stay, have-targets}
 use Rattle.journal_format.proofs.HeaderBack.{IsHeader, IsTarget, header-back}
 use Rattle.journal.proofs.Histories.{AreSteps-count}
 use Rattle.journal_format.proofs.LinesCut.{cut-written}
@@ -103,10 +107,10 @@ named-again : (lines : List (List ℕ)) (targets : List Target) → AllByRecursi
 named-again lines [] locks = tt
 named-again lines (t ∷ targets) locks = (locks.0.named, named-again lines targets locks.1)
 
-pub present-again : (state : State) (cursor steps : ℕ) (requirements : List ℕ) (locks : LockTexts) → IsState state → requirements ≡ concat state.lines → AllZip IsWrittenLock state.targets locks
-    → Present (header_for state cursor steps requirements locks) requirements locks (Ok state)
-present-again state cursor steps requirements locks is lines written =
-    let header = header_for state cursor steps requirements locks in
+pub present-again : (state : State) (cursor : ℕ) (changes : List ChangeParts) (requirements : List ℕ) (locks : LockTexts) → IsState state → requirements ≡ concat state.lines → AllZip IsWrittenLock state.targets locks
+    → Present (header_for state cursor changes requirements locks) requirements locks (Ok state)
+present-again state cursor changes requirements locks is lines written =
+    let header = header_for state cursor changes requirements locks in
     let read : file_of requirements ≡ Ok state.lines = rw lines is.lines in
     let odd : odd_lock header locks ≡ None = none-odd header state.targets locks refl is.rising written in
     let behind : reads_present header requirements locks (Ok state) =
@@ -135,43 +139,54 @@ name-lawful (t ∷ targets) name lawful there = elim (Contains-cons_cases t.name
   | inr more ↦ name-lawful targets name lawful.1 more
 ]
 
+-- the version of a saved header
+later-version : (changes : List ChangeParts) → version_for changes ≢ One
+later-version changes = elim (cases_Bool (stay_all changes)) [
+  | inl all ↦ rw all (λ one. cc one)
+  | inr moves ↦ rw moves (λ one. cc one)
+]
+
+-- each entry may be of its target behind the saved header
+may-all : (state : State) (states : List State) (changes : List ChangeParts) (n : ℕ) (header : Header) → header.version ≡ version_for changes → ((name : List ℕ) → Contains (names state.targets) name → has_target header name ≡ true)
+    → AreSteps states changes → slice_get states n ≡ Some state → AllByRecursion (MayName header) changes
+may-all state states changes n header version known steps at = elim (cases_Bool (stay_all changes)) [
+  | inl all ↦ all-may header states changes n state (all-stay changes all) steps at known
+  | inr moves ↦ any-may header (version ∙ rw moves refl) changes
+]
+
 pub opens-again : ReadsVersions → (history : HistoryParts) (saved : Saved) (is : IsSaved history saved) → AllByRecursion IsState history.past.states → AllByRecursion IsLawfulTarget is.state.targets
-    → AllZip IsWrittenLock is.state.targets saved.locks.entries → AreWritten (header_for is.state history.past.cursor (length history.changes) saved.requirements saved.locks.entries) history.changes
+    → AllByRecursion IsLawfulStep history.changes → AllZip IsWrittenLock is.state.targets saved.locks.entries → AreWritten (header_for is.state history.past.cursor history.changes saved.requirements saved.locks.entries) history.changes
     → Opens saved.requirements saved.locks.entries saved.journal (Ok history)
-opens-again versions history saved is lawful targets files written =
+opens-again versions history saved is lawful targets steps_lawful files written =
     let past = history.past in
     let changes = history.changes in
     let locks = saved.locks.entries in
-    let header = header_for is.state past.cursor (length changes) saved.requirements locks in
+    let header = header_for is.state past.cursor changes saved.requirements locks in
     let rest = flat_map (λ c. line_of (step_data c)) changes in
     let state_lawful : IsState is.state = state-at past.states past.cursor is.state lawful is.state_is in
     let count = AreSteps-count past.states changes is.steps in
     let within = slice_get_within past.states past.cursor is.state is.state_is in
     let header_is : IsHeader header = record {
-      version = refl;
+      later = later-version changes;
       requirements = sha256-digest saved.requirements;
       within = omega (arith, count, within);
       targets = targets-lawful is.state.targets locks files targets;
       rising = targets-rise is.state.targets locks files state_lawful.some state_lawful.rising;
     } in
     let begins : BeginsWith saved.journal (header, rest) = subst (λ journal. BeginsWith journal (header, rest)) (sym is.journal) (begins-again header rest written.header_line header_is) in
-    let present = present-again is.state past.cursor (length changes) saved.requirements locks state_lawful is.requirements files in
-    let knows : Knows header (names is.state.targets) = record {
-      version = refl;
-      lawful = λ name there. name-lawful is.state.targets name targets there;
-      known = λ name there. name-known is.state.targets locks name files there;
-    } in
-    let read = changes-read versions header past.states changes is.steps lawful (all-known header past.states changes past.cursor is.state is.steps is.state_is knows) in
+    let present = present-again is.state past.cursor changes saved.requirements locks state_lawful is.requirements files in
+    let may = may-all is.state past.states changes past.cursor header refl (λ name there. name-known is.state.targets locks name files there) is.steps is.state_is in
+    let read = changes-read header versions past.states changes is.steps lawful (have-targets changes) steps_lawful may in
     let steps = steps-again header 2 changes written.step_lines read in
     let walked = past-again past changes is.state is.steps lawful is.state_is in
     inl ((header, rest), begins, (Ok is.state, present, (Ok changes, steps, (Ok past, walked, refl))))
 
 -- a saved history opens again, and as nothing else
 pub opens-as : AChangeLeadsToOneState → ReadsVersions → (history : HistoryParts) (saved : Saved) (is : IsSaved history saved) → AllByRecursion IsState history.past.states → AllByRecursion IsLawfulTarget is.state.targets
-    → AllZip IsWrittenLock is.state.targets saved.locks.entries → AreWritten (header_for is.state history.past.cursor (length history.changes) saved.requirements saved.locks.entries) history.changes
+    → AllByRecursion IsLawfulStep history.changes → AllZip IsWrittenLock is.state.targets saved.locks.entries → AreWritten (header_for is.state history.past.cursor history.changes saved.requirements saved.locks.entries) history.changes
     → OpensAs history saved
-opens-as one versions history saved is lawful targets files written =
-    let opens = opens-again versions history saved is lawful targets files written in
+opens-as one versions history saved is lawful targets steps_lawful files written =
+    let opens = opens-again versions history saved is lawful targets steps_lawful files written in
     record {
       opens = opens;
       alone = λ answer other. opens-once one saved.requirements saved.locks.entries saved.journal answer (Ok history) other opens;

@@ -1,10 +1,9 @@
 -- States at places of a history.
-use Rattle.std.proofs.Common.{◌≡◌, ◌+◌, ◌-◌, ℕ, List, [], ◌∷◌, Some, refl, sym, ap, ◌∙◌, subst, arith}
+use Rattle.std.proofs.Common.{◌≡◌, ◌+◌, ◌-◌, ℕ, List, Some, sym, ap, ◌∙◌, subst, arith}
 use Rattle.std.specs.Prelude.{slice_get}
-use Rattle.std.specs.List.{AllByRecursion, AllZip}
-use Rattle.changes.specs.Changes.{After, ChangeParts, ChangesTarget, IsSameTarget, Leads, inverse}
+use Rattle.std.specs.List.{AllByRecursion}
+use Rattle.changes.specs.Changes.{After, ChangeParts, Leads, inverse}
 use Rattle.states.specs.State.{IsState}
-use Rattle.states.specs.declared.target.Target.{Target}
 use Rattle.changes.proofs.ChangeFacts.{After-inverse}
 use Rattle.changes.proofs.WholeDifference.{IsDifference-inverse}
 use Rattle.changes.proofs.OneOutcome.{After-one}
@@ -61,31 +60,6 @@ stepped-on past place change state new step lawful at leads =
 -- a place written otherwise
 pub at-place : (states : List State) (one other : ℕ) (state : State) → one ≡ other → slice_get states one ≡ Some state → slice_get states other ≡ Some state
 at-place states one other state same at = subst (λ (k : ℕ). slice_get states k ≡ Some state) same at
-
--- ---- targets
-
--- targets are the same as themselves
-pub same-self : (targets : List Target) → AllZip IsSameTarget targets targets
-same-self [] = tt
-same-self (t ∷ targets) = (record { name = refl; environment = refl }, same-self targets)
-
--- a change leaves names and environments
-pub same-changed : (change : ChangeParts) (olds news : List Target) → AllZip (ChangesTarget change) olds news → AllZip IsSameTarget olds news
-same-changed change [] [] all = tt
-same-changed change [] (new ∷ news) all = absurd all
-same-changed change (old ∷ olds) [] all = absurd all
-same-changed change (old ∷ olds) (new ∷ news) all = (all.0.same, same-changed change olds news all.1)
-
-pub same-through : (one two three : List Target) → AllZip IsSameTarget one two → AllZip IsSameTarget two three → AllZip IsSameTarget one three
-same-through [] [] [] first second = tt
-same-through [] [] (z ∷ three) first second = absurd second
-same-through [] (y ∷ two) three first second = absurd first
-same-through (x ∷ one) [] three first second = absurd first
-same-through (x ∷ one) (y ∷ two) [] first second = absurd second
-same-through (x ∷ one) (y ∷ two) (z ∷ three) first second = (
-  record { name = second.0.name ∙ first.0.name; environment = second.0.environment ∙ first.0.environment },
-  same-through one two three first.1 second.1,
-)
 
 -- ---- two places
 

@@ -9,6 +9,7 @@ use Rattle.serde_json.specs.Written.{compact_text}
 use Rattle.changes.specs.Changes.{ChangeParts, IsMinimal}
 use Rattle.changes.specs.declared.change.parts.EntryChange.{EntryChange}
 use Rattle.states.specs.State.{IsState}
+use Rattle.states.specs.TargetNames.{is_target_name}
 use Rattle.pylock.proofs.CanonicalBack.{ReadsVersions}
 use Rattle.journal.specs.Values.{State, Target}
 use Rattle.journal.specs.Changes.{AreSteps, HistoryParts, IsChange}
@@ -24,13 +25,13 @@ use Rattle.journal_format.specs.declared.header.Header.{Header}
 use Rattle.journal_format.specs.declared.header.HeaderTarget.{HeaderTarget}
 use Rattle.journal_format.specs.declared.header.JournalVersion.TheVariants.{One}
 use Rattle.journal_format.proofs.LinesCut.{cut-written}
-use Rattle.journal_format.proofs.StepsBack.{IsLawfulChange}
 use Rattle.journal_format.proofs.VersionOneBack.{header_one-back, step_one-back}
-use Rattle.journal.proofs.ChangesRead.{Knows, all-known, lawful-changes, locks-lawful, names_of, on-first}
+use Rattle.journal.proofs.ChangesRead.{MayName, all-may, lawful-changes, locks-lawful, on-first}
+use Rattle.journal.proofs.SavedVersions.{all-stay}
 use Rattle.journal.proofs.Histories.{AreSteps-count}
 use Rattle.journal.proofs.LinesOfText.{line-text}
-use Rattle.journal.proofs.LocksAgain.{name-known, names}
-use Rattle.journal.proofs.OpensAgain.{json-back, name-lawful, present-again, sha256-digest}
+use Rattle.journal.proofs.LocksAgain.{name-known}
+use Rattle.journal.proofs.OpensAgain.{json-back, present-again, sha256-digest}
 use Rattle.journal.proofs.PlainData.{IsPlain, read-plain}
 use Rattle.journal.proofs.StatesAgain.{past-again, state-at}
 use Rattle.journal.proofs.VersionOneData.{header_depth, header_depth-within, header_one-plain, step_depth, step_depth-within, step_one-plain}
@@ -55,33 +56,33 @@ record IsReadOne (header : Header) (change : ChangeParts) : Type 0 where
   pub plain : IsPlain (step_one change) step_depth
 
 module _ (reads : ReadsVersions) (header : Header) (target : HeaderTarget) (one : header.targets ≡ target ∷ []) (unnamed : target.name ≡ []) where
-  unnamed-entries : (cs : List EntryChange) → AllByRecursion (IsLawfulChange header) cs → AllByRecursion (λ c. c.target ≡ []) cs
-  unnamed-entries [] lawful = tt
-  unnamed-entries (c ∷ cs) lawful = (unnamed_by header target c.target one unnamed lawful.0.known, unnamed-entries cs lawful.1)
+  unnamed-entries : (cs : List EntryChange) → AllByRecursion (λ c. has_target header c.target ≡ true) cs → AllByRecursion (λ c. c.target ≡ []) cs
+  unnamed-entries [] may = tt
+  unnamed-entries (c ∷ cs) may = (unnamed_by header target c.target one unnamed may.0, unnamed-entries cs may.1)
 
-  lawful-one : (cs : List EntryChange) → AllByRecursion (IsLawfulChange header) cs → AllByRecursion (IsLawfulChange (as_one header)) cs
-  lawful-one [] lawful = tt
-  lawful-one (c ∷ cs) lawful =
-      let h = lawful.0 in
-      (record { target = h.target; known = h.known; name = h.name; old = h.old; new = h.new }, lawful-one cs lawful.1)
+  named-entries : (cs : List EntryChange) → AllByRecursion (λ c. c.target ≡ []) cs → AllByRecursion (λ c. is_target_name c.target ≡ true) cs
+  named-entries [] none = tt
+  named-entries (c ∷ cs) none = (subst (λ (name : List ℕ). is_target_name name ≡ true) (sym none.0) refl, named-entries cs none.1)
 
-  change-one : (old : State) (change : ChangeParts) (new : State) → Knows header (names_of old) → IsState old → IsState new → IsChange old change new → IsReadOne header change
-  change-one old change new knows h g is =
-      let lawful = lawful-changes reads header old change new knows h g is change.entries (λ c there. there) is.leads.known is.minimal.entries.each in
-      let digests = on-first change old.targets new.targets h.some is.leads.targets (locks-lawful old.lines old.targets h.locks) (locks-lawful new.lines new.targets g.locks) in
+  change-one : (old : State) (change : ChangeParts) (new : State) → change.targets ≡ [] → MayName (as_one header) change → IsState old → IsState new → IsChange old change new → IsReadOne header change
+  change-one old change new stay may h g is =
+      let none = unnamed-entries change.entries may in
+      let lawful = lawful-changes (as_one header) old change new h g is change.entries (λ c there. there) (named-entries change.entries none) may is.minimal.entries.each in
+      let digests = on-first change old.targets new.targets h.some g.some is.leads.targets (locks-lawful old.lines old.targets h.locks) (locks-lawful new.lines new.targets g.locks) in
       record {
         minimal = is.minimal;
-        back = step_one-back reads (as_one header) refl change (unnamed-entries change.entries lawful) (lawful-one change.entries lawful) digests;
-        plain = step_one-plain header change lawful is.minimal.splices.places;
+        back = step_one-back reads (as_one header) refl change stay none lawful digests;
+        plain = step_one-plain (as_one header) change lawful is.minimal.splices.places;
       }
 
-  changes-one : (states : List State) (changes : List ChangeParts) → AreSteps states changes → AllByRecursion IsState states → AllByRecursion (λ s. Knows header (names_of s)) states → AllByRecursion (IsReadOne header) changes
-  changes-one [] changes steps lawful knows = absurd steps
-  changes-one (s ∷ []) [] steps lawful knows = tt
-  changes-one (s ∷ []) (c ∷ cs) steps lawful knows = absurd steps
-  changes-one (s ∷ t ∷ states) [] steps lawful knows = absurd steps
-  changes-one (s ∷ t ∷ states) (c ∷ cs) steps lawful knows =
-      (change-one s c t knows.0 lawful.0 lawful.1.0 steps.0, changes-one (t ∷ states) cs steps.1 lawful.1 knows.1)
+  changes-one : (states : List State) (changes : List ChangeParts) → AreSteps states changes → AllByRecursion IsState states → AllByRecursion (λ c. c.targets ≡ []) changes → AllByRecursion (MayName (as_one header)) changes
+      → AllByRecursion (IsReadOne header) changes
+  changes-one [] changes steps lawful stay may = absurd steps
+  changes-one (s ∷ []) [] steps lawful stay may = tt
+  changes-one (s ∷ []) (c ∷ cs) steps lawful stay may = absurd steps
+  changes-one (s ∷ t ∷ states) [] steps lawful stay may = absurd steps
+  changes-one (s ∷ t ∷ states) (c ∷ cs) steps lawful stay may =
+      (change-one s c t stay.0 may.0 lawful.0 lawful.1.0 steps.0, changes-one (t ∷ states) cs steps.1 lawful.1 stay.1 may.1)
 
 step_one-line : (header : Header) (c : ChangeParts) → IsWritten (step_one c) → IsReadOne header c → IsStepLine (as_one header) (compact_text (step_one c)) c
 unfolding step_of_line
@@ -113,7 +114,7 @@ one-opens reads history requirements lock journal is =
     let changes = history.changes in
     let state = is.state in
     let locks : List (List ℕ × List ℕ) = ([], lock) ∷ [] in
-    let header = header_for state past.cursor (length changes) requirements locks in
+    let header = header_for state past.cursor changes requirements locks in
     let target = target_for is.target lock in
     let rest = flat_map (λ c. line_of (step_one c)) changes in
     let one : header.targets ≡ target ∷ [] = ap (λ (ts : List Target). targets_for ts locks) is.one in
@@ -122,11 +123,8 @@ one-opens reads history requirements lock journal is =
     subst (λ (ts : List Target). AllZip IsWrittenLock ts locks) (sym is.one) (record { file = is.lock_is; reads = is.lock_reads }, tt) in
     let target_lawful : IsLawfulTarget is.target = record { name = rw is.unnamed refl; environment = is.environment } in
     let targets : AllByRecursion IsLawfulTarget state.targets = subst (λ (ts : List Target). AllByRecursion IsLawfulTarget ts) (sym is.one) (target_lawful, tt) in
-    let knows : Knows header (names state.targets) = record {
-      version = refl;
-      lawful = λ name there. name-lawful state.targets name targets there;
-      known = λ name there. name-known state.targets locks name files there;
-    } in
+    let stay = all-stay changes is.stay in
+    let may = all-may (as_one header) past.states changes past.cursor state stay is.steps is.state_is (λ name there. name-known state.targets locks name files there) in
     let count = AreSteps-count past.states changes is.steps in
     let within = slice_get_within past.states past.cursor state is.state_is in
     let least : past.cursor ≤ length changes = omega (arith, count, within) in
@@ -140,8 +138,8 @@ one-opens reads history requirements lock journal is =
     let begins : BeginsWith journal (as_one header, rest) =
     subst (λ (bytes : List ℕ). BeginsWith bytes (as_one header, rest)) (sym is.journal_is)
     (begins-one header target rest written (rw (json-back (header_one (as_one header) target) written, back) refl)) in
-    let present = present-again state past.cursor (length changes) requirements locks state_lawful is.requirements_is files in
-    let read = changes-one reads header target one is.unnamed past.states changes is.steps is.lawful (all-known header past.states changes past.cursor state is.steps is.state_is knows) in
+    let present = present-again state past.cursor changes requirements locks state_lawful is.requirements_is files in
+    let read = changes-one reads header target one is.unnamed past.states changes is.steps is.lawful stay may in
     let steps = steps-one header 2 changes parts.1 read in
     let walked = past-again past changes state is.steps is.lawful is.state_is in
     inl ((as_one header, rest), begins, (Ok state, present, (Ok changes, steps, (Ok past, walked, refl))))

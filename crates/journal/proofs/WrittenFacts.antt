@@ -12,6 +12,7 @@ use Rattle.serde_json.specs.Written.{compact_text}
 use Rattle.journal.specs.Tied.{AreWritten, IsWritten}
 use Rattle.journal.proofs.StepsJoined.{all-append}
 use Rattle.journal_format.specs.declared.header.Header.{Header}
+use Rattle.journal_format.specs.Tied.LawfulTargets.{IsLawfulStep}
 use Rattle.journal_format.specs.Written.{header_data, line_of, step_data}
 
 -- the line of one change more
@@ -52,3 +53,16 @@ written_more changes place change at before written =
 pub written_all : (header : Header) (changes : List ChangeParts) (place : ℕ) → length changes ≤ place → IsWritten (header_data header)
     → AllByRecursion (λ c. IsWritten (step_data c)) (take place changes) → AreWritten header changes
 written_all header changes place past first others = record { header_line = first; step_lines = rw (take_all place changes past) at others }
+
+-- one change more that is lawful, and all of them
+pub lawful_more : (changes : List ChangeParts) (place : ℕ) (change : ChangeParts) → slice_get changes ((place + 1) - 1) ≡ Some change → AllByRecursion IsLawfulStep (take place changes) → IsLawfulStep change
+    → AllByRecursion IsLawfulStep (take (place + 1) changes)
+lawful_more changes place change at before lawful =
+    let here : (place + 1) - 1 ≡ place = omega arith in
+    let found : slice_get changes place ≡ Some change = rw here at at in
+    let is : get_or changes place change ≡ change = get_or_from_slice_get changes place change change found in
+    let within : place < length changes = slice_get_within changes place change found in
+    rw (take_more changes place change within, is) (all-append IsLawfulStep (take place changes) (change ∷ []) before (lawful, tt))
+
+pub lawful_all : (changes : List ChangeParts) (place : ℕ) → length changes ≤ place → AllByRecursion IsLawfulStep (take place changes) → AllByRecursion IsLawfulStep changes
+lawful_all changes place past before = rw (take_all place changes past) at before

@@ -1,8 +1,6 @@
 // States at places of a history, and what differs between two.
 
 ghost use Rattle.std.specs.Prelude.{◌≡◌, ◌+◌, ◌-◌, ◌<◌, ◌≤◌, length, Some, slice_get, IfOk, OnOk};
-ghost use Rattle.std.specs.List.{AllZip};
-ghost use Rattle.changes.specs.Changes.{IsSameTarget};
 ghost use Rattle.journal.specs.Places.{IsBetween};
 
 use crate::history::History;
@@ -39,7 +37,6 @@ fn step_on<H: History>(
     requires at { slice_get (H.past history.now).states place ≡ Some state.old }
     ensures at { OnOk result
         (slice_get (H.past history.now).states (place + 1) ≡ Some state.new) }
-    ensures same { OnOk result (AllZip IsSameTarget state.old.targets state.new.targets) }
 {
     let _steps = history.steps();
     history.change(place + 1).carry(alloc, state)?;
@@ -80,7 +77,6 @@ fn on_to<H: History>(
     requires at { slice_get (H.past history.now).states from ≡ Some state }
     ensures at { IfOk result
         (λ moved. slice_get (H.past history.now).states to ≡ Some moved) }
-    ensures same { IfOk result (λ moved. AllZip IsSameTarget state.targets moved.targets) }
 {
     let mut moved = state;
     for place in from..to {

@@ -1,6 +1,6 @@
 // A history as texts: a requirements file, a lock file for each target, and a journal.
 
-ghost use Rattle.std.specs.Prelude.{◌≡◌, ◌≤◌, ◌++◌, IfOk, Ok, OnOk, Some, false, map, string_bytes, true};
+ghost use Rattle.std.specs.Prelude.{◌≡◌, ◌≤◌, ◌++◌, IfOk, IfSome, Ok, OnOk, Some, false, map, string_bytes, true};
 ghost use Rattle.std.specs.BTreeMap.{insert_entry};
 ghost use Rattle.std.specs.Cmp.Lexicographic.{slice_cmp};
 ghost use Rattle.std.specs.List.{AllByRecursion};
@@ -13,15 +13,18 @@ ghost use Rattle.serde_json.specs.Data.{depth};
 ghost use Rattle.serde_json.specs.Read.{max_depth};
 ghost use Rattle.serde_json.specs.View.{view};
 ghost use Rattle.serde_json.specs.Written.{has_float};
+ghost use Rattle.markers.specs.Environment.{IsEnvironment};
+ghost use Rattle.states.specs.TargetNames.{is_target_name};
+ghost use Rattle.journal_format.specs.Tied.LawfulTargets.{IsLawfulStep, IsLawfulTarget as IsLawfulTargetChange};
 ghost use Rattle.journal_format.specs.Written.{header_data, journal_of, line_of, step_data};
 ghost use Rattle.journal.specs.Changes.{parts_of};
-ghost use Rattle.journal.specs.Saved.{IsSaved, OpensAs};
+ghost use Rattle.journal.specs.Saved.{IsSaved, OpensAs, version_for};
 ghost use Rattle.journal.specs.Tied.{AreWritten, IsWritten};
 ghost use Rattle.journal.specs.Tied.LocksWritten.{AreLocked, IsLawfulTarget, IsInserted};
 
 use crate::history::History;
 use edits::laws::a_change_leads_to_one_state;
-use edits::{Change, Target, TargetName};
+use edits::{Change, EntryChange, Environment, Target, TargetChange, TargetName};
 use journal_format::{Header, HeaderTarget, JournalVersion, header_value, step_value};
 use lists::{Seq, Text};
 use pep440::laws::a_canonical_text_is_read;
@@ -146,6 +149,18 @@ fn journal_of<H: History>(alloc: Global, history: &H, header: &Header) -> Result
     Ok(lines)
 }
 
+/// The version in which a history is saved: 3 where a step has targets, else 2.
+fn version_of<H: History>(history: &H) -> JournalVersion
+    ensures { result ≡ version_for (H.changes history.now) }
+{
+    for place in 0..history.steps() {
+        if !history.change(place + 1).targets().is_empty() {
+            return JournalVersion::Three;
+        }
+    }
+    JournalVersion::Two
+}
+
 /// What holds of a target anyway.
 fn recall_invariant(target: &Target)
     ensures { IsLawfulTarget target.now }
@@ -163,6 +178,59 @@ fn recall_invariants(targets: &[Target])
     }
 }
 
+/// What holds of what is there of an environment anyway.
+fn recall_environment(environment: &Option<Environment>)
+    ensures { IfSome environment.now IsEnvironment }
+{
+    if let Some(environment) = environment {
+        environment.recall_invariant();
+    }
+}
+
+/// What holds of a change of a target anyway.
+fn recall_target(change: &TargetChange)
+    ensures { IsLawfulTargetChange change.now }
+{
+    change.name.recall_invariant();
+    recall_environment(&change.old);
+    recall_environment(&change.new);
+}
+
+/// What holds of changes of targets anyway.
+fn recall_targets(changes: &[TargetChange])
+    ensures { AllByRecursion IsLawfulTargetChange changes.now }
+{
+    for place in 0..changes.len() {
+        recall_target(&changes[place]);
+    }
+}
+
+/// What holds of the targets of changed entries anyway.
+fn recall_entries(changes: &[EntryChange])
+    ensures { AllByRecursion (λ c. is_target_name c.target ≡ true) changes.now }
+{
+    for place in 0..changes.len() {
+        changes[place].target.recall_invariant();
+    }
+}
+
+/// What holds of the targets of a change anyway.
+fn recall_step(change: &Change)
+    ensures { IsLawfulStep change.now }
+{
+    recall_targets(change.targets());
+    recall_entries(change.entries());
+}
+
+/// The same of all steps of the history.
+fn recall_steps<H: History>(history: &H)
+    ensures { AllByRecursion IsLawfulStep (H.changes history.now) }
+{
+    for place in 0..history.steps() {
+        recall_step(history.change(place + 1));
+    }
+}
+
 /// The files of the history.
 pub(crate) fn files_of<H: History>(alloc: Global, history: &H) -> Result<Saved, AllocError>
     ensures saved { IfOk result (λ saved. IsSaved
@@ -176,10 +244,11 @@ pub(crate) fn files_of<H: History>(alloc: Global, history: &H) -> Result<Saved, 
     state.recall_invariant();
     let given = state.targets();
     recall_invariants(given);
+    recall_steps(history);
     let requirements = state.lines().bytes(alloc)?;
     let Locked { locks, targets } = locked_of(alloc, given)?;
     let header = Header {
-        version: JournalVersion::Two,
+        version: version_of(history),
         cursor: history.cursor() as u64,
         requirements: Sha256::digest(requirements.as_str().as_bytes()),
         steps: history.steps() as u64,

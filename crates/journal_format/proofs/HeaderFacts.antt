@@ -9,7 +9,7 @@ use Rattle.pylock.specs.declared.flaw.Flaw.{Flaw}
 use Rattle.journal_format.specs.declared.header.Header.{Header}
 use Rattle.journal_format.specs.declared.header.HeaderTarget.{HeaderTarget}
 use Rattle.journal_format.specs.declared.header.JournalVersion.{JournalVersion}
-use Rattle.journal_format.specs.declared.header.JournalVersion.TheVariants.{One, Two}
+use Rattle.journal_format.specs.declared.header.JournalVersion.TheVariants.{One, Three, Two}
 use Rattle.journal_format.specs.Entries.{digest_in}
 use Rattle.pylock.specs.Flaws.{◌>>=◌, found}
 use Rattle.journal_format.specs.Forms.{check, at, json_of, list_of, number_of, only_keys}
@@ -61,6 +61,7 @@ targets-rise : (version : JournalVersion) (d : Data) (targets : List HeaderTarge
 unfolding targets_in
 targets-rise One d targets is = one_by (at (codes "environment") environment_in d) (at (codes "lock") digest_in d) targets is
 targets-rise Two d targets is = two_by (at (codes "targets") (list_of target_in) d) targets is
+targets-rise Three d targets is = two_by (at (codes "targets") (list_of target_in) d) targets is
 
 version_by : (d : Data) (version : Result JournalVersion Flaw) (h : Header)
     → (version >>= λ v. only_keys (header_keys v) d >>= λ _. targets_in v d >>= λ t. at (codes "cursor") number_of d >>= λ c. at (codes "requirements") digest_in d >>= λ r. at (codes "steps") number_of d >>= λ s. made v t c r s) ≡ Ok h

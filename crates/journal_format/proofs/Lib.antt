@@ -1,6 +1,7 @@
 pub mod FormFacts
 pub mod HeaderFacts
 pub mod Depths
+pub mod EnvironmentsBack
 pub mod Floats
 pub mod KeptTexts
 pub mod StepsBack

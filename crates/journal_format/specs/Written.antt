@@ -1,4 +1,4 @@
--- The JSON values of a journal's lines (reqlock's own format, version 2). The keys of each object stand in the order of their bytes.
+-- The JSON values of a journal's lines (reqlock's own format, versions 2 and 3). The keys of each object stand in the order of their bytes.
 use Rattle.std.specs.Prelude.{ℕ, List, [], ◌∷◌, ◌++◌, codes, map, Option, Some, None}
 use Rattle.std.specs.List.{flat_map}
 use Rattle.hex.specs.Hex.{encode_lower}
@@ -9,6 +9,7 @@ use Rattle.changes.specs.Changes.{ChangeParts}
 use Rattle.changes.specs.declared.change.parts.DigestChange.{DigestChange}
 use Rattle.changes.specs.declared.change.parts.EntryChange.{EntryChange}
 use Rattle.changes.specs.declared.change.parts.Splice.{Splice}
+use Rattle.changes.specs.declared.change.parts.TargetChange.{TargetChange}
 use Rattle.markers.specs.Environment.{Texts, all_variables, text_of}
 use Rattle.markers.specs.Variables.{variable_name}
 use Rattle.markers.specs.declared.variable.Variable.{Variable}
@@ -17,6 +18,8 @@ use Rattle.serde_json.specs.View.{items_of}
 use Rattle.serde_json.specs.Written.{compact_text}
 use Rattle.journal_format.specs.declared.header.Header.{Header}
 use Rattle.journal_format.specs.declared.header.HeaderTarget.{HeaderTarget}
+use Rattle.journal_format.specs.declared.header.JournalVersion.{JournalVersion}
+use Rattle.journal_format.specs.declared.header.JournalVersion.TheVariants.{Three}
 
 -- a list as an array
 abbrev pub array_of : {X : Type 0} → (X → Data) → List X → Data
@@ -64,13 +67,6 @@ splice_data s = array (item (natural s.place) (item (array_of string s.old) (ite
 unfoldable pub digests_data : DigestChange → Data
 digests_data d = array (item (digest_data d.old) (item (digest_data d.new) no_items))
 
--- a step
-unfoldable pub step_data : ChangeParts → Data
-step_data c = object (
-    member (codes "entries") (array_of entry_change_data c.entries) (
-    member (codes "lines") (array_of splice_data c.splices) (
-    member (codes "snapshot") (nullable digests_data c.digests) no_members)))
-
 -- the members of variables, each with its text
 abbrev pub variable_members : Texts → List Variable → Members
 variable_members texts [] = no_members
@@ -80,6 +76,23 @@ variable_members texts (variable ∷ rest) = member (variable_name variable) (st
 unfoldable pub environment_data : Texts → Data
 environment_data texts = object (variable_members texts all_variables)
 
+-- `[name, old, new]`
+unfoldable pub target_change_data : TargetChange → Data
+target_change_data c = array (item (string c.name) (item (nullable environment_data c.old) (item (nullable environment_data c.new) no_items)))
+
+-- the key of targets stands where there is one
+abbrev pub targets_member : List TargetChange → Members
+targets_member [] = no_members
+targets_member (change ∷ changes) = member (codes "targets") (array_of target_change_data (change ∷ changes)) no_members
+
+-- a step
+unfoldable pub step_data : ChangeParts → Data
+step_data c = object (
+    member (codes "entries") (array_of entry_change_data c.entries) (
+    member (codes "lines") (array_of splice_data c.splices) (
+    member (codes "snapshot") (nullable digests_data c.digests) (
+    targets_member c.targets))))
+
 -- a target of a header
 unfoldable pub target_data : HeaderTarget → Data
 target_data t = object (
@@ -87,11 +100,16 @@ target_data t = object (
     member (codes "lock") (digest_data t.lock) (
     member (codes "name") (string t.name) no_members)))
 
+-- the number of the version that is written
+abbrev pub written_version : JournalVersion → ℕ
+written_version Three = 3
+written_version version = 2
+
 -- a header
 unfoldable pub header_data : Header → Data
 header_data h = object (
     member (codes "cursor") (natural h.cursor) (
-    member (codes "journal") (natural 2) (
+    member (codes "journal") (natural (written_version h.version)) (
     member (codes "requirements") (digest_data h.requirements) (
     member (codes "steps") (natural h.steps) (
     member (codes "targets") (array_of target_data h.targets) no_members)))))

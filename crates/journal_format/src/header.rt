@@ -3,7 +3,7 @@
 ghost use Rattle.std.specs.Prelude.{◌≡◌};
 ghost use Rattle.markers.specs.Environment.{all_variables, texts_in};
 ghost use Rattle.journal_format.specs.Forms.{only_keys};
-ghost use Rattle.journal_format.specs.Lines.{are_targets, environment_in, has_target, header_in, header_keys, header_of_line, target_in, target_name_in, targets_in, texts_read, journal_version};
+ghost use Rattle.journal_format.specs.Lines.{are_targets, environment_in, has_target, header_in, header_keys, header_of_line, may_name, target_in, target_name_in, targets_in, texts_read, journal_version};
 ghost use Rattle.pylock.specs.Flaws.{Gives, found};
 ghost use Rattle.serde_json.specs.View.{view};
 ghost use Rattle.std.specs.Result.{result_ok};
@@ -24,6 +24,8 @@ pub enum JournalVersion {
     One,
     /// Version 2, which names its targets.
     Two,
+    /// Version 3, whose steps may tell of targets that come, go or get another environment.
+    Three,
 }
 
 /// A target of a header: its name, its environment, and the SHA-256 digest of its lock file.
@@ -74,6 +76,17 @@ impl Named for HeaderTarget {
 }
 
 impl Header {
+    /// Whether an entry may be of the target of this name. In version 3 the header has the present targets
+    /// alone, so that each name may stand.
+    pub(crate) fn may_name(&self, name: &TargetName) -> bool
+        ensures { result ≡ may_name self.now.version self.now name.now }
+    {
+        match self.version {
+            JournalVersion::One | JournalVersion::Two => self.has_target(name),
+            JournalVersion::Three => true,
+        }
+    }
+
     /// Whether a target has this name.
     pub fn has_target(&self, name: &TargetName) -> bool
         ensures { result ≡ has_target self.now name.now }
@@ -145,6 +158,7 @@ fn journal_version(number: u64) -> Result<JournalVersion, Flaw>
     match number {
         1 => Ok(JournalVersion::One),
         2 => Ok(JournalVersion::Two),
+        3 => Ok(JournalVersion::Three),
         _ => Err(Flaw::OtherForm),
     }
 }
@@ -165,7 +179,7 @@ fn only_header_keys(version: JournalVersion, value: &Value) -> Result<(), Flaw>
             ];
             only_keys(&keys, value)
         }
-        JournalVersion::Two => {
+        JournalVersion::Two | JournalVersion::Three => {
             let keys = ["cursor", "journal", "requirements", "steps", "targets"];
             only_keys(&keys, value)
         }
@@ -213,7 +227,7 @@ fn are_targets(targets: &[HeaderTarget]) -> bool
     !targets.is_empty() && rises(targets)
 }
 
-/// The targets that a header of version 2 lists.
+/// The targets that a header of a later version lists.
 #[tactic(auto, unfolding(crate::specs::Lines::targets_in))]
 fn listed_targets(alloc: Global, value: &Value) -> Result<Seq<HeaderTarget>, Flaw>
     ensures { Gives (λ targets. targets) (targets_in JournalVersion.Two (view value.now)) result }
@@ -224,6 +238,7 @@ fn listed_targets(alloc: Global, value: &Value) -> Result<Seq<HeaderTarget>, Fla
 }
 
 /// The targets of a header of this version.
+#[tactic(auto, unfolding(crate::specs::Lines::targets_in))]
 fn targets_of(
     alloc: Global,
     version: JournalVersion,
@@ -233,7 +248,7 @@ fn targets_of(
 {
     match version {
         JournalVersion::One => own_target(alloc, value),
-        JournalVersion::Two => listed_targets(alloc, value),
+        JournalVersion::Two | JournalVersion::Three => listed_targets(alloc, value),
     }
 }
 

@@ -1,5 +1,5 @@
-//! The format of a journal: a line of JSON for its header, and one for each step. Versions 1 and 2 are read,
-//! version 2 is written.
+//! The format of a journal: a line of JSON for its header, and one for each step. Versions 1, 2 and 3 are
+//! read, versions 2 and 3 are written.
 #![tactic(auto)]
 
 mod entries;

@@ -2,8 +2,8 @@
 
 ghost use Rattle.std.specs.Prelude.{◌≡◌, ◌⊎◌, IfErr, IfOk, codes};
 ghost use Rattle.changes.specs.Changes.{ChangeParts};
-ghost use Rattle.journal_format.specs.Forms.{at, each, list_of};
-ghost use Rattle.journal_format.specs.Lines.{IsStepLine, digests_in, entry_change_in, splice_in, step_in, step_of_line, targeted};
+ghost use Rattle.journal_format.specs.Forms.{at, each, list_of, only_keys};
+ghost use Rattle.journal_format.specs.Lines.{IsStepLine, digests_in, entry_change_in, splice_in, step_in, step_keys, step_of_line, target_change_in, target_changes_in, targeted, tells_targets};
 ghost use Rattle.pylock.specs.Flaws.{Gives};
 ghost use Rattle.pylock.specs.declared.flaw.Flaw.TheVariants as flaws;
 ghost use Rattle.serde_json.specs.View.{items_view, view};
@@ -13,9 +13,9 @@ use crate::forms::{
     Read, at, check, items_of, json_of, only_keys, pair_of, quadruple_of, triple_of, value_at,
 };
 use crate::header::{Header, JournalVersion};
-use changes::{Change, DigestChange, EntryChange, Splice};
+use changes::{Change, DigestChange, EntryChange, Splice, TargetChange};
 use lists::{Seq, Text};
-use markers::Name;
+use markers::{Environment, Name};
 use pylock::Flaw;
 use serde_json::Value;
 use states::TargetName;
@@ -49,7 +49,7 @@ fn targeted(
             let (name, old, new) = triple_of(value)?;
             Ok((TargetName::empty(alloc), name, old, new))
         }
-        JournalVersion::Two => {
+        JournalVersion::Two | JournalVersion::Three => {
             let (target, name, old, new) = quadruple_of(value)?;
             let target = TargetName::from_value(alloc, target)?;
             Ok((target, name, old, new))
@@ -63,7 +63,7 @@ fn entry_change_of(alloc: Global, header: &Header, value: &Value) -> Result<Entr
     ensures { Gives (λ c. c) (entry_change_in header.now (view value.now)) result }
 {
     let (target, name, old, new) = targeted(alloc, header.version, value)?;
-    check(header.has_target(&target))?;
+    check(header.may_name(&target))?;
     let name = Name::from_value(alloc, name)?;
     let old = entry_or_null(alloc, &name, old)?;
     let new = entry_or_null(alloc, &name, new)?;
@@ -113,10 +113,57 @@ impl Read for DigestChange {
     }
 }
 
+impl Read for TargetChange {
+    ghost reading = { target_change_in };
+
+    #[tactic(auto, unfolding(crate::specs::Lines::target_change_in))]
+    fn from_value(alloc: Global, value: &Value) -> Result<TargetChange, Flaw> {
+        let (name, old, new) = triple_of(value)?;
+        let name = TargetName::from_value(alloc, name)?;
+        let old = Option::<Environment>::from_value(alloc, old)?;
+        let new = Option::<Environment>::from_value(alloc, new)?;
+        Ok(TargetChange { name, old, new })
+    }
+}
+
+/// Whether a step of the version tells of targets.
+fn tells_targets(version: JournalVersion, step: &Value) -> bool
+    ensures { result ≡ tells_targets version (view step.now) }
+{
+    match version {
+        JournalVersion::Three => step.get("targets").is_some(),
+        JournalVersion::One | JournalVersion::Two => false,
+    }
+}
+
+/// Checks that a step has exactly its keys.
+fn only_step_keys(tells: bool, step: &Value) -> Result<(), Flaw>
+    ensures { Gives (λ u. u) (only_keys (step_keys tells) (view step.now)) result }
+{
+    if tells {
+        return only_keys(&["entries", "lines", "snapshot", "targets"], step);
+    }
+    only_keys(&["entries", "lines", "snapshot"], step)
+}
+
+/// The changes of targets that stand in a step, one at least where it tells of some.
+#[tactic(auto, unfolding(crate::specs::Lines::target_changes_in))]
+fn targets_of(alloc: Global, tells: bool, step: &Value) -> Result<Seq<TargetChange>, Flaw>
+    ensures { Gives (λ cs. cs) (target_changes_in tells (view step.now)) result }
+{
+    if !tells {
+        return Ok(Seq::new(alloc));
+    }
+    let changes: Seq<TargetChange> = at(alloc, "targets", step)?;
+    check(changes.len() != 0)?;
+    Ok(changes)
+}
+
 /// The parts of a change.
 #[derive(Drop)]
 struct StepParts {
     splices: Seq<Splice>,
+    targets: Seq<TargetChange>,
     entries: Seq<EntryChange>,
     digests: Option<DigestChange>,
 }
@@ -126,16 +173,20 @@ struct StepParts {
 fn parts_of(alloc: Global, header: &Header, value: &Value) -> Result<StepParts, Flaw>
     ensures { Gives (λ p. record {
       splices = p.splices;
+      targets = p.targets;
       entries = p.entries;
       digests = p.digests;
     }) (step_in header.now (view value.now)) result }
 {
-    only_keys(&["entries", "lines", "snapshot"], value)?;
+    let tells = tells_targets(header.version, value);
+    only_step_keys(tells, value)?;
     let entries = entries_of(alloc, header, value)?;
     let splices: Seq<Splice> = at(alloc, "lines", value)?;
     let digests: Option<DigestChange> = at(alloc, "snapshot", value)?;
+    let targets = targets_of(alloc, tells, value)?;
     Ok(StepParts {
         splices,
+        targets,
         entries,
         digests,
     })
@@ -146,6 +197,7 @@ fn parts_of(alloc: Global, header: &Header, value: &Value) -> Result<StepParts, 
 fn parts_of_line(alloc: Global, header: &Header, line: &[u8]) -> Result<StepParts, Flaw>
     ensures { Gives (λ p. record {
       splices = p.splices;
+      targets = p.targets;
       entries = p.entries;
       digests = p.digests;
     }) (step_of_line header.now line.now) result }
@@ -162,10 +214,11 @@ pub fn change_of_line(alloc: Global, header: &Header, line: &[u8]) -> Result<Cha
 {
     let StepParts {
         splices,
+        targets,
         entries,
         digests,
     } = parts_of_line(alloc, header, line)?;
-    match Change::new(splices, entries, digests) {
+    match Change::new(splices, targets, entries, digests) {
         Some(change) => {
             change.recall_invariant();
             Ok(change)

@@ -7,10 +7,11 @@ ghost use Rattle.markers.specs.Environment.{text_of};
 ghost use Rattle.markers.specs.Variables.{variable_name};
 ghost use Rattle.serde_json.specs.View.{members_view, view};
 ghost use Rattle.pylock.specs.Python.{python_text};
-ghost use Rattle.journal_format.specs.Written.{array_of, digest_data, digests_data, entry_change_data, entry_data, environment_data, file_data, header_data, nullable, splice_data, step_data, target_data};
+ghost use Rattle.journal_format.specs.Tied.Members.{with_targets};
+ghost use Rattle.journal_format.specs.Written.{array_of, digest_data, digests_data, entry_change_data, entry_data, environment_data, file_data, header_data, nullable, splice_data, step_data, target_change_data, target_data, written_version};
 
-use crate::header::{Header, HeaderTarget};
-use changes::{Change, DigestChange, EntryChange, Splice};
+use crate::header::{Header, HeaderTarget, JournalVersion};
+use changes::{Change, DigestChange, EntryChange, Splice, TargetChange};
 use lists::Text;
 use markers::{Environment, Name, Variable};
 use pep440::{RequiresPython, Version};
@@ -241,14 +242,37 @@ impl Written for HeaderTarget {
     }
 }
 
-/// The value of a header, in version 2.
+impl Written for TargetChange {
+    ghost form = { target_change_data };
+
+    #[tactic(auto, unfolding(crate::specs::Written::target_change_data))]
+    fn to_value(&self, alloc: Global) -> Result<Value, AllocError> {
+        let name = text_value(alloc, self.name.as_str())?;
+        let old = nullable(alloc, &self.old)?;
+        let new = nullable(alloc, &self.new)?;
+        triple(alloc, name, old, new)
+    }
+}
+
+/// The number of the version that is written.
+fn written_version(version: JournalVersion) -> u64
+    ensures { result ≡ written_version version }
+{
+    match version {
+        JournalVersion::Three => 3,
+        JournalVersion::One | JournalVersion::Two => 2,
+    }
+}
+
+/// The value of a header, in version 2 or 3.
 #[tactic(auto, unfolding(crate::specs::Written::header_data))]
 pub fn header_value(alloc: Global, header: &Header) -> Result<Value, AllocError>
     ensures { IfOk result (λ v. view v ≡ header_data header.now) }
 {
     let mut members = Map::new(alloc);
     put(&mut members, alloc, "cursor", Value::from(header.cursor))?;
-    put(&mut members, alloc, "journal", Value::from(2u64))?;
+    let version = written_version(header.version);
+    put(&mut members, alloc, "journal", Value::from(version))?;
     let requirements = digest_value(alloc, header.requirements)?;
     put(&mut members, alloc, "requirements", requirements)?;
     put(&mut members, alloc, "steps", Value::from(header.steps))?;
@@ -257,7 +281,23 @@ pub fn header_value(alloc: Global, header: &Header) -> Result<Value, AllocError>
     Ok(Value::Object(members))
 }
 
-/// The value of a step, in version 2.
+/// Inserts changes of targets, where there is one.
+fn insert_targets(
+    members: &mut Map<String, Value>,
+    alloc: Global,
+    targets: &[TargetChange],
+) -> Result<(), AllocError>
+    ensures { OnOk result (members_view members.new.entries
+        ≡ with_targets targets.now (members_view members.old.entries)) }
+{
+    if targets.is_empty() {
+        return Ok(());
+    }
+    let targets = array_value(alloc, targets)?;
+    put(members, alloc, "targets", targets)
+}
+
+/// The value of a step.
 #[tactic(auto, unfolding(crate::specs::Written::step_data))]
 pub fn step_value(alloc: Global, change: &Change) -> Result<Value, AllocError>
     ensures { IfOk result (λ v. view v ≡ step_data change.now) }
@@ -269,5 +309,6 @@ pub fn step_value(alloc: Global, change: &Change) -> Result<Value, AllocError>
     put(&mut members, alloc, "lines", lines)?;
     let snapshot = nullable(alloc, &change.digests())?;
     put(&mut members, alloc, "snapshot", snapshot)?;
+    insert_targets(&mut members, alloc, change.targets())?;
     Ok(Value::Object(members))
 }

@@ -20,7 +20,7 @@ returns g c =
     let lawful : AllByRecursion IsLawfulTarget state.targets = rw given at c.recall_invariants.ensures in
     let locked : AreLocked state.targets c.in_ok-locks.field-0 = rw given at c.in_ok-locks.ensures in
     let saved : Saved = record { requirements = c.in_ok-requirements.requirements; locks = c.in_ok-locks.field-0.locks; journal = c.from_string-journal.result } in
-    let header = header_for state past.cursor (length changes) saved.requirements saved.locks.entries in
+    let header = header_for state past.cursor changes saved.requirements saved.locks.entries in
     let is : IsSaved (parts_of past changes) saved = record {
       state = state;
       state_is = c.state-state.ensures.present;
@@ -31,5 +31,5 @@ returns g c =
     } in
     record {
       saved = is;
-      opens = opens-as c.a_change_leads_to_one_state.ensures c.a_canonical_text_is_read.ensures (parts_of past changes) saved is c.steps.ensures.lawful lawful locked.files (search (rules, count, locked));
+      opens = opens-as c.a_change_leads_to_one_state.ensures c.a_canonical_text_is_read.ensures (parts_of past changes) saved is c.steps.ensures.lawful lawful c.recall_steps.ensures locked.files (search (rules, count, locked));
     }

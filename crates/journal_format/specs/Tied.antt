@@ -1,0 +1,3 @@
+-- What serves proofs alone.
+pub mod LawfulTargets
+pub mod Members
