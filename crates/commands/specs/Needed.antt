@@ -8,11 +8,11 @@ use Rattle.journal.specs.Commands.{Asked, Editing, Undoing, Redoing}
 use Rattle.journal.specs.Past.{Past}
 use Rattle.journal.specs.Steps.{Step}
 
--- a change has no line and no locked entry: at most the index is another
+-- a change has no line, no target and no locked entry: at most the index is another
 abbrev pub IsOfIndexAlone : ChangeParts → Type 0
-IsOfIndexAlone change = (change.splices ≡ []) × (change.entries ≡ [])
+IsOfIndexAlone change = (change.splices ≡ []) × (change.targets ≡ []) × (change.entries ≡ [])
 
--- step k of a history, from 1, changes the index alone; or it changes a line or a locked entry
+-- step k of a history, from 1, changes the index alone; or it changes a line, a target or a locked entry
 abbrev pub ChangesIndexAlone : Past → ℕ → Type 0
 ChangesIndexAlone past k = (change : ChangeParts) × IsStepOf past k change × IsOfIndexAlone change
 

@@ -9,9 +9,9 @@ use journal::{Command, Reply, Session};
 use resolve::RESOLVER;
 use std::alloc::Global;
 
-/// Does one command. Where edits are made only if they are needed, one that changes no line and no locked entry is
-/// answered by `Same`, though the index at hand is another one. The history is to be saved where the reply is
-/// `Done`.
+/// Does one command. Where edits are made only if they are needed, one that changes no line, no target and no
+/// locked entry is answered by `Same`, though the index at hand is another one. The history is to be saved where the
+/// reply is `Done`.
 pub fn apply_command(
     alloc: Global,
     session: &mut Session,
@@ -39,9 +39,9 @@ pub fn apply_command(
     }
 }
 
-/// Whether a change has no line and no locked entry.
+/// Whether a change has no line, no target and no locked entry.
 fn is_of_index_alone(change: &Change) -> bool
     ensures { IsTrue result ↔ IsOfIndexAlone change.now }
 {
-    change.splices().is_empty() && change.entries().is_empty()
+    change.splices().is_empty() && change.targets().is_empty() && change.entries().is_empty()
 }
