@@ -41,5 +41,5 @@ beginning_lacks before behind name OutOfMemory named lacks = absurd lacks
 pub no_question_lacks : (before behind : List Row) (name : Text) (fault : ReadFault) → name ≡ codes "why" → IsNoQuestion before behind fault → IsLacking before behind name fault
 no_question_lacks before behind name (Misused misuse) named unasked = absurd unasked
 no_question_lacks before behind name (Needed Index) named unasked = (inr (inr (inr (inr (inl named)))), unasked)
-no_question_lacks before behind name (Needed Environment) named unasked = (inr (inr (named, unasked.0)), unasked.1, unasked.2)
+no_question_lacks before behind name (Needed Environment) named unasked = (inr (inr (inr (named, unasked.0))), unasked.1, unasked.2)
 no_question_lacks before behind name OutOfMemory named unasked = tt

@@ -97,6 +97,7 @@ edit_shapes =
     ∷ shape_with (codes "upgrade") (texts_rule (codes "names") ∷ edit_rules)
     ∷ shape_with (codes "relock") edit_rules
     ∷ shape_with (codes "replace") (text_rule (codes "new") ∷ (replacement_rules ++ edit_rules))
+    ∷ shape_with (codes "retarget") (pins_rule ∷ edit_rules)
     ∷ []
 
 -- those that go through the history, and those that do the commands of standard input
@@ -122,13 +123,13 @@ view_shapes =
     ∷ []
 
 -- why [--explain [--long]] [--keep-locked] [TEXT], or why with one of --init [TEXT] [--pins FILE]..., --constrain NAME [SPEC], --upgrade [NAME]...,
--- --remove NAME, --not NAME and --replace [NEW], the last with the options of new lines
+-- --remove NAME, --not NAME, --replace [NEW], this one with the options of new lines, and --retarget [--pins FILE]...
 abbrev pub why_shapes : List Shape
 why_shapes =
     shape_with (codes "why") (
     flag_rule (codes "explain") ∷ flag_rule (codes "long") ∷ keeping_rule ∷ text_rule (codes "text") ∷ flag_rule (codes "init") ∷ ranged_rule (codes "constrain") 2 1 2
     ∷ ranged_rule (codes "upgrade") 1 0 usize_max ∷ option_rule (codes "remove") ∷ option_rule (codes "not") ∷ ranged_rule (codes "replace") 1 0 1
-    ∷ replacement_rules
+    ∷ flag_rule (codes "retarget") ∷ replacement_rules
     )
     ∷ []
 

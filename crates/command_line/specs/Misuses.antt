@@ -55,6 +55,7 @@ question_marks behind =
     ∷ (codes "--remove <NAME>", is_given behind (codes "remove"))
     ∷ (codes "--not <NAME[==VERSION]>", is_given behind (codes "not"))
     ∷ (codes "--replace [<NEW>]", is_given behind (codes "replace"))
+    ∷ (codes "--retarget", has_flag behind (codes "retarget"))
     ∷ (codes "[TEXT]", not (has_flag behind (codes "init")) && is_given behind (codes "text"))
     ∷ []
 
@@ -89,13 +90,17 @@ has_old_or_line behind = is_given behind (codes "was") || is_given behind (codes
 abbrev pub has_lines : List Row → Bool
 has_lines behind = is_some (first_of (codes "new") behind) || (is_some (first_of (codes "replace") behind) || has_old_or_line behind)
 
+-- whether a question of `why` is about targets or about other lines, for which there may be pins
+abbrev pub has_targets_or_lines : List Row → Bool
+has_targets_or_lines behind = has_flag behind (codes "init") || (is_given behind (codes "replace") || has_flag behind (codes "retarget"))
+
 -- what has to stand beside an argument or behind a subcommand, as help shows it, each with whether it is missing
 abbrev pub missing_marks : Text → List Row → List (Text × Bool)
 missing_marks name behind =
     (codes "NEW, --was or --line", is_replacement name behind && not (has_lines behind))
     ∷ (codes "--replace", not (is_replacement name behind) && has_old_or_line behind)
     ∷ (codes "--explain", bytes_eq name (codes "why") && (has_flag behind (codes "long") && not (has_flag behind (codes "explain"))))
-    ∷ (codes "--init or --replace", bytes_eq name (codes "why") && (is_given behind (codes "pins") && (not (has_flag behind (codes "init")) && not (is_given behind (codes "replace")))))
+    ∷ (codes "--init, --replace or --retarget", bytes_eq name (codes "why") && (is_given behind (codes "pins") && not (has_targets_or_lines behind)))
     ∷ []
 
 -- the values of `--color`

@@ -48,10 +48,10 @@ is_flag_twice before behind flag = has_flag before flag && has_flag behind flag
 
 -- the subcommands that take a flag which may stand before them
 abbrev pub dry_run_takers : List Text
-dry_run_takers = codes "init" ∷ codes "add" ∷ codes "remove" ∷ codes "constrain" ∷ codes "upgrade" ∷ codes "relock" ∷ codes "replace" ∷ codes "undo" ∷ codes "redo" ∷ codes "forget" ∷ []
+dry_run_takers = codes "init" ∷ codes "add" ∷ codes "remove" ∷ codes "constrain" ∷ codes "upgrade" ∷ codes "relock" ∷ codes "replace" ∷ codes "retarget" ∷ codes "undo" ∷ codes "redo" ∷ codes "forget" ∷ []
 
 abbrev pub keep_locked_takers : List Text
-keep_locked_takers = codes "add" ∷ codes "remove" ∷ codes "constrain" ∷ codes "upgrade" ∷ codes "relock" ∷ codes "replace" ∷ codes "batch" ∷ codes "why" ∷ []
+keep_locked_takers = codes "add" ∷ codes "remove" ∷ codes "constrain" ∷ codes "upgrade" ∷ codes "relock" ∷ codes "replace" ∷ codes "retarget" ∷ codes "batch" ∷ codes "why" ∷ []
 
 abbrev pub json_takers : List Text
 json_takers = codes "show" ∷ codes "log" ∷ codes "diff" ∷ codes "check" ∷ codes "outdated" ∷ []

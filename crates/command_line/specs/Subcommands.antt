@@ -21,6 +21,7 @@ use Rattle.command_line.specs.declared.invocation.EditInputs.{EditInputs}
 use Rattle.command_line.specs.declared.invocation.Inputs.{Inputs}
 use Rattle.command_line.specs.declared.invocation.NewLines.{NewLines}
 use Rattle.command_line.specs.declared.invocation.NewLines.TheVariants.{File, Line, Was}
+use Rattle.command_line.specs.declared.invocation.NewTargets.{NewTargets}
 use Rattle.command_line.specs.declared.invocation.Question.{Question}
 use Rattle.command_line.specs.declared.invocation.Question.TheVariants as questions
 use Rattle.command_line.specs.declared.invocation.Replacement.{Replacement}
@@ -29,7 +30,7 @@ use Rattle.command_line.specs.declared.invocation.Saving.TheVariants.{Save, DryR
 use Rattle.command_line.specs.declared.invocation.Shown.{Shown}
 use Rattle.command_line.specs.declared.invocation.Shown.TheVariants.{Table, Entry, Tree}
 use Rattle.command_line.specs.declared.invocation.Subcommand.{Subcommand}
-use Rattle.command_line.specs.declared.invocation.Subcommand.TheVariants.{Init, Edit, Replace, Undo, Redo, Forget, Batch, Try, Show, Log, Diff, Check, Outdated, Export, Skipped, Why}
+use Rattle.command_line.specs.declared.invocation.Subcommand.TheVariants.{Init, Edit, Replace, Retarget, Undo, Redo, Forget, Batch, Try, Show, Log, Diff, Check, Outdated, Export, Skipped, Why}
 use Rattle.command_line.specs.declared.invocation.Verbosity.{Verbosity as VerbosityValue}
 use Rattle.command_line.specs.declared.invocation.Verbosity.TheVariants.{Quiet, Usual, Verbose}
 use Rattle.command_line.specs.declared.invocation.Told.{Told as ToldValue}
@@ -54,6 +55,11 @@ abbrev pub HasInputs : List Row → List Row → Inputs → Type 0
 HasInputs before behind inputs =
     (index_of before behind ≡ Some inputs.index.now) × (inputs.environments ≡ environments_of before behind) × (environments_of before behind ≢ [])
     × (inputs.pins ≡ pins_of behind)
+
+-- the environments of other targets, each value of `--env` as it stands, and at least one; and pins
+abbrev pub IsNewTargets : List Row → List Row → NewTargets → Type 0
+IsNewTargets before behind targets =
+    (targets.environments ≡ environments_of before behind) × (environments_of before behind ≢ []) × (targets.pins ≡ pins_of behind)
 
 -- the index that an edit is made over, whether it keeps what is locked, and whether it is made only if it is needed
 abbrev pub HasEditInputs : List Row → List Row → EditInputs → Type 0
@@ -148,16 +154,20 @@ IsExport before behind export =
     (export.format ≡ export_format_of behind) × (text_of export.target ≡ first_of (codes "target") behind) × (text_of export.index ≡ index_of before behind)
     × (export.covers ≡ values_in behind (codes "covers"))
 
--- the question of `why`: about `init`, about a release, about other lines, or about an edit
+-- the question of `why`: about `init`, about a release, about other targets, about other lines, or about an edit
 abbrev pub IsQuestion : List Row → List Row → Question → Type 0
 IsQuestion before behind (questions.Init inputs line) = (has_flag behind (codes "init") ≡ true) × HasInputs before behind inputs × (text_of line ≡ first_of (codes "text") behind)
 IsQuestion before behind (questions.Release release over) =
     (has_flag behind (codes "init") ≡ false) × (first_of (codes "not") behind ≡ Some release.now) × (index_of before behind ≡ Some over.now)
+IsQuestion before behind (questions.Retarget targets inputs) =
+    (has_flag behind (codes "init") ≡ false) × (first_of (codes "not") behind ≡ None) × (has_flag behind (codes "retarget") ≡ true)
+    × IsNewTargets before behind targets × HasEditInputs before behind inputs
 IsQuestion before behind (questions.Replace replacement inputs) =
-    (has_flag behind (codes "init") ≡ false) × (first_of (codes "not") behind ≡ None) × (is_given behind (codes "replace") ≡ true)
+    (has_flag behind (codes "init") ≡ false) × (first_of (codes "not") behind ≡ None) × (has_flag behind (codes "retarget") ≡ false) × (is_given behind (codes "replace") ≡ true)
     × IsReplacement (codes "replace") behind replacement × HasEditInputs before behind inputs
 IsQuestion before behind (questions.Edit edit inputs) =
-    (has_flag behind (codes "init") ≡ false) × (first_of (codes "not") behind ≡ None) × (is_given behind (codes "replace") ≡ false) × (edit ≡ questioned behind) × HasEditInputs before behind inputs
+    (has_flag behind (codes "init") ≡ false) × (first_of (codes "not") behind ≡ None) × (has_flag behind (codes "retarget") ≡ false) × (is_given behind (codes "replace") ≡ false)
+    × (edit ≡ questioned behind) × HasEditInputs before behind inputs
 
 -- a subcommand of this name
 abbrev pub IsSubcommand : List Row → List Row → Text → Subcommand → Type 0
@@ -165,6 +175,8 @@ IsSubcommand before behind name (Init inputs saving) = (name ≡ codes "init") �
 IsSubcommand before behind name (Edit edit inputs saving) = (edit_of name behind ≡ Some edit) × HasEditInputs before behind inputs × (saving ≡ saving_of before behind)
 IsSubcommand before behind name (Replace replacement inputs saving) =
     (name ≡ codes "replace") × IsReplacement (codes "new") behind replacement × HasEditInputs before behind inputs × (saving ≡ saving_of before behind)
+IsSubcommand before behind name (Retarget targets inputs saving) =
+    (name ≡ codes "retarget") × IsNewTargets before behind targets × HasEditInputs before behind inputs × (saving ≡ saving_of before behind)
 IsSubcommand before behind name (Undo saving) = (name ≡ codes "undo") × (saving ≡ saving_of before behind)
 IsSubcommand before behind name (Redo saving) = (name ≡ codes "redo") × (saving ≡ saving_of before behind)
 IsSubcommand before behind name (Forget beginning saving) = (name ≡ codes "forget") × IsBeginning behind beginning × (saving ≡ saving_of before behind)

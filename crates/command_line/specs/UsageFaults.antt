@@ -47,11 +47,13 @@ IsTold reads.OutOfMemory fault = fault ≡ OutOfMemory
 
 -- a subcommand that needs an environment, and one that needs an index
 abbrev pub NeedsEnvironment : Text → List Row → Type 0
-NeedsEnvironment name behind = (name ≡ codes "init") ⊎ (name ≡ codes "try") ⊎ ((name ≡ codes "why") × (has_flag behind (codes "init") ≡ true))
+NeedsEnvironment name behind =
+    (name ≡ codes "init") ⊎ (name ≡ codes "try") ⊎ (name ≡ codes "retarget")
+    ⊎ ((name ≡ codes "why") × ((has_flag behind (codes "init") ≡ true) ⊎ (has_flag behind (codes "retarget") ≡ true)))
 
 abbrev pub NeedsIndex : Text → List Row → Type 0
 NeedsIndex name behind =
-    (name ≡ codes "init") ⊎ (name ≡ codes "try") ⊎ (name ≡ codes "batch") ⊎ (name ≡ codes "skipped") ⊎ (name ≡ codes "why") ⊎ (name ≡ codes "outdated") ⊎ (name ≡ codes "replace")
+    (name ≡ codes "init") ⊎ (name ≡ codes "try") ⊎ (name ≡ codes "batch") ⊎ (name ≡ codes "skipped") ⊎ (name ≡ codes "why") ⊎ (name ≡ codes "outdated") ⊎ (name ≡ codes "replace") ⊎ (name ≡ codes "retarget")
     ⊎ ((name ≡ codes "check") × (has_flag behind (codes "current") ≡ true))
     ⊎ IsSome (edit_of name behind)
 
@@ -67,7 +69,7 @@ LacksInput before behind reads.OutOfMemory = Unit {0}
 
 -- the subcommands that make no edit, in the order of clap's command (`the_subcommands_are_known`)
 abbrev pub other_names : List Text
-other_names = codes "init" ∷ codes "replace" ∷ codes "undo" ∷ codes "redo" ∷ codes "forget" ∷ codes "batch" ∷ codes "try" ∷ codes "show" ∷ codes "log" ∷ codes "diff" ∷ codes "check" ∷ codes "outdated" ∷ codes "export" ∷ codes "skipped" ∷ codes "why" ∷ []
+other_names = codes "init" ∷ codes "replace" ∷ codes "retarget" ∷ codes "undo" ∷ codes "redo" ∷ codes "forget" ∷ codes "batch" ∷ codes "try" ∷ codes "show" ∷ codes "log" ∷ codes "diff" ∷ codes "check" ∷ codes "outdated" ∷ codes "export" ∷ codes "skipped" ∷ codes "why" ∷ []
 
 -- no subcommand of the program, or an edit that lacks a text
 abbrev pub IsNoSubcommand : Text → List Row → Type 0
@@ -79,7 +81,8 @@ IsNoSubcommand name behind =
 abbrev pub IsNoQuestion : List Row → List Row → ReadFault → Type 0
 IsNoQuestion before behind (reads.Misused misuse) = ⊥
 IsNoQuestion before behind (reads.Needed Index) = index_of before behind ≡ None
-IsNoQuestion before behind (reads.Needed Environment) = (has_flag behind (codes "init") ≡ true) × IsSome (index_of before behind) × (environments_of before behind ≡ [])
+IsNoQuestion before behind (reads.Needed Environment) =
+    ((has_flag behind (codes "init") ≡ true) ⊎ (has_flag behind (codes "retarget") ≡ true)) × IsSome (index_of before behind) × (environments_of before behind ≡ [])
 IsNoQuestion before behind reads.OutOfMemory = Unit {0}
 
 -- a text, of an argument as help shows it, that is no number

@@ -4,7 +4,7 @@ ghost use Rattle.std.specs.Prelude.{◌≡◌, ◌&&◌, codes, not};
 ghost use Rattle.std.specs.Str.{bytes_eq};
 ghost use Rattle.clap.specs.Words.{found_of, rows_of};
 ghost use Rattle.command_line.specs.Marks.{first_marked, first_of_two};
-ghost use Rattle.command_line.specs.Misuses.{beginning_marks, excluded, has_lines, has_old_or_line, is_given, is_replacement, lines_marks, missing_marks, question_marks, shown_marks, verbosity_marks};
+ghost use Rattle.command_line.specs.Misuses.{beginning_marks, excluded, has_lines, has_old_or_line, has_targets_or_lines, is_given, is_replacement, lines_marks, missing_marks, question_marks, shown_marks, verbosity_marks};
 ghost use Rattle.command_line.specs.Options.{has_flag, text_of};
 
 use crate::marks::{first_marked, first_of_two};
@@ -50,6 +50,7 @@ fn excluded_question(behind: &ArgMatches<'_>) -> Option<&'static str>
         ("--remove <NAME>", is_given(behind, "remove")),
         ("--not <NAME[==VERSION]>", is_given(behind, "not")),
         ("--replace [<NEW>]", is_given(behind, "replace")),
+        ("--retarget", has_flag(behind, "retarget")),
         ("[TEXT]", is_text_alone(behind)),
     ])
 }
@@ -82,7 +83,10 @@ pub(crate) fn missing(name: &str, behind: &ArgMatches<'_>) -> Option<&'static st
         ("NEW, --was or --line", lacks_lines(name, behind)),
         ("--replace", lacks_replacement(name, behind)),
         ("--explain", lacks_sentences(name, behind)),
-        ("--init or --replace", lacks_question(name, behind)),
+        (
+            "--init, --replace or --retarget",
+            lacks_question(name, behind),
+        ),
     ])
 }
 
@@ -134,13 +138,16 @@ fn lacks_sentences(name: &str, behind: &ArgMatches<'_>) -> bool
 fn lacks_question(name: &str, behind: &ArgMatches<'_>) -> bool
     ensures { result ≡ (bytes_eq name.now (codes "why")
         && (is_given (rows_of (found_of behind.now)) (codes "pins")
-        && (not (has_flag (rows_of (found_of behind.now)) (codes "init"))
-        && not (is_given (rows_of (found_of behind.now)) (codes "replace"))))) }
+        && not (has_targets_or_lines (rows_of (found_of behind.now))))) }
 {
-    name == "why"
-        && is_given(behind, "pins")
-        && !has_flag(behind, "init")
-        && !is_given(behind, "replace")
+    name == "why" && is_given(behind, "pins") && !has_targets_or_lines(behind)
+}
+
+/// Whether the question is about targets or about other lines, for which there may be pins.
+fn has_targets_or_lines(behind: &ArgMatches<'_>) -> bool
+    ensures { result ≡ has_targets_or_lines (rows_of (found_of behind.now)) }
+{
+    has_flag(behind, "init") || is_given(behind, "replace") || has_flag(behind, "retarget")
 }
 
 /// Whether an option or a text is given.

@@ -41,6 +41,8 @@ pub enum Subcommand<'a> {
     Edit(Edit, EditInputs<'a>, Saving),
     /// Puts other lines in the place of those of the file, over an index.
     Replace(Replacement<'a>, EditInputs<'a>, Saving),
+    /// Locks the lines for other targets in the place of the present ones, over an index.
+    Retarget(NewTargets, EditInputs<'a>, Saving),
     Undo(Saving),
     Redo(Saving),
     /// Has the history begin with a later state.
@@ -75,6 +77,15 @@ pub struct Inputs<'a> {
     /// The values of `--env` as they stand, in their order; there is at least one.
     pub environments: Seq<Text>,
     /// The values of `--pins` as they stand, in their order: the versions to keep. `try` takes none.
+    pub pins: Seq<Text>,
+}
+
+/// The targets that take the place of the present ones, and versions that count for new ones.
+#[derive(Debug, Drop)]
+pub struct NewTargets {
+    /// The values of `--env` as they stand, in their order; there is at least one.
+    pub environments: Seq<Text>,
+    /// The values of `--pins` as they stand, in their order.
     pub pins: Seq<Text>,
 }
 
@@ -194,6 +205,8 @@ pub enum Question<'a> {
     Edit(Edit, EditInputs<'a>),
     /// Why these lines in the place of those of the file have none.
     Replace(Replacement<'a>, EditInputs<'a>),
+    /// Why the lines have none for these targets in the place of the present ones.
+    Retarget(NewTargets, EditInputs<'a>),
     /// Why a first lock has none, with this line behind those of the file where there is one.
     Init(Inputs<'a>, Option<&'a str>),
     /// Why the present lock hasn't the release that this text names, as `NAME==VERSION`, or the

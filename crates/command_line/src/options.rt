@@ -143,7 +143,15 @@ fn takes_keep_locked(subcommand: &str) -> bool
 {
     matches!(
         subcommand,
-        "add" | "remove" | "constrain" | "upgrade" | "relock" | "replace" | "batch" | "why"
+        "add"
+            | "remove"
+            | "constrain"
+            | "upgrade"
+            | "relock"
+            | "replace"
+            | "retarget"
+            | "batch"
+            | "why"
     )
 }
 
@@ -159,6 +167,7 @@ fn takes_dry_run(subcommand: &str) -> bool
             | "upgrade"
             | "relock"
             | "replace"
+            | "retarget"
             | "undo"
             | "redo"
             | "forget"

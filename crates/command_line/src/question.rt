@@ -12,7 +12,7 @@ use crate::invocation::Question;
 use crate::misuse::ReadFault;
 use crate::options::{has_flag, value, values};
 use crate::replacement::{read_replacement, text_at};
-use crate::subcommand::{needed_edit_inputs, needed_index, needed_inputs};
+use crate::subcommand::{needed_edit_inputs, needed_index, needed_inputs, needed_targets};
 use clap::ArgMatches;
 use edits::Edit;
 use lists::Text;
@@ -35,6 +35,10 @@ pub(crate) fn read_question<'a>(
     }
     if let Some(release) = value(behind, "not") {
         return Ok(Question::Release(release, needed_index(before, behind)?));
+    }
+    if has_flag(behind, "retarget") {
+        let targets = needed_targets(alloc, before, behind)?;
+        return Ok(Question::Retarget(targets, needed_edit_inputs(before, behind)?));
     }
     let inputs = needed_edit_inputs(before, behind)?;
     if is_given(behind, "replace") {

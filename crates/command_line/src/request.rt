@@ -10,7 +10,8 @@ use crate::command_words::command;
 use crate::exclusion::{excluded, missing};
 pub use crate::invocation::{
     Beginning, ColorChoice, DiffRange, EditInputs, Export, ExportFormat, Format, Inputs,
-    Invocation, NewLines, Question, Replacement, Saving, Shown, Subcommand, Told, Verbosity,
+    Invocation, NewLines, NewTargets, Question, Replacement, Saving, Shown, Subcommand, Told,
+    Verbosity,
 };
 use crate::manner::{color, unknown_color, unknown_format, verbosity};
 use crate::misuse::{Misuse, ReadFault, told};

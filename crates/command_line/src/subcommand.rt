@@ -4,13 +4,14 @@ ghost use Rattle.std.specs.Prelude.{◌≡◌, ◌≢◌, codes, true, IfErr, If
 ghost use Rattle.std.specs.List.{AllByRecursion};
 ghost use Rattle.clap.specs.Words.{found_of, rows_of};
 ghost use Rattle.command_line.specs.Options.{has_flag, json_takers};
-ghost use Rattle.command_line.specs.Subcommands.{HasEditInputs, HasInputs, IsSubcommand, IsChecked, IsExport, IsPlace, IsRange, IsShown, export_format_of, format_named, format_of, index_of, saving_of, told_of};
+ghost use Rattle.command_line.specs.Subcommands.{HasEditInputs, HasInputs, IsSubcommand, IsChecked, IsExport, IsNewTargets, IsPlace, IsRange, IsShown, export_format_of, format_named, format_of, index_of, saving_of, told_of};
 ghost use Rattle.command_line.specs.UsageFaults.{HasNoPlace, IsLacking, IsNoNumber, LacksIndex, LacksInput};
 
 use crate::beginning::read_beginning;
 use crate::edit_words::read_edit;
 use crate::invocation::{
-    DiffRange, EditInputs, Export, ExportFormat, Format, Inputs, Saving, Shown, Subcommand, Told,
+    DiffRange, EditInputs, Export, ExportFormat, Format, Inputs, NewTargets, Saving, Shown,
+    Subcommand, Told,
 };
 use crate::misuse::{Misuse, ReadFault};
 use crate::options::{all_chosen, chosen, has_flag, is_flagged, value};
@@ -58,6 +59,11 @@ pub(crate) fn read_subcommand<'a>(
             let replacement = read_replacement(alloc, behind, "new")?;
             let inputs = needed_edit_inputs(before, behind)?;
             Ok(Subcommand::Replace(replacement, inputs, saving(before, behind)))
+        }
+        "retarget" => {
+            let targets = needed_targets(alloc, before, behind)?;
+            let inputs = needed_edit_inputs(before, behind)?;
+            Ok(Subcommand::Retarget(targets, inputs, saving(before, behind)))
         }
         "export" => Ok(Subcommand::Export(export(alloc, before, behind)?)),
         "undo" => Ok(Subcommand::Undo(saving(before, behind))),
@@ -275,4 +281,23 @@ pub(crate) fn needed_inputs<'a>(
         environments,
         pins: read_pins(alloc, behind)?,
     })
+}
+
+/// The environments that were given for other targets, and the pins; the index is missed first.
+pub(crate) fn needed_targets<'a>(
+    alloc: Global,
+    before: &ArgMatches<'a>,
+    behind: &ArgMatches<'a>,
+) -> Result<NewTargets, ReadFault<'a>>
+    ensures targets { IfOk result
+        (IsNewTargets (rows_of (found_of before.now)) (rows_of (found_of behind.now))) }
+    ensures missing { IfErr result
+        (LacksInput (rows_of (found_of before.now)) (rows_of (found_of behind.now))) }
+{
+    let Inputs {
+        index: _,
+        environments,
+        pins,
+    } = needed_inputs(alloc, before, behind)?;
+    Ok(NewTargets { environments, pins })
 }

@@ -85,6 +85,15 @@ pub(crate) const REPLACE: Help<'static> = Help {
     shows_environment: false,
 };
 
+/// Of `retarget`.
+pub(crate) const RETARGET: Help<'static> = Help {
+    about: "Lock for other environments in the place of the present ones; versions stay where they can",
+    example: "Example: reqlock retarget --index index.json --env environment.json",
+    shows_dir: true,
+    shows_index: true,
+    shows_environment: true,
+};
+
 /// Of `undo`.
 pub(crate) const UNDO: Help<'static> = Help {
     about: "Go back to the state before the last edit",

@@ -6,7 +6,7 @@ use crate::descriptions::ArgWords::{
 use crate::descriptions::{ArgWords, SubcommandWords};
 use crate::subcommand_help::{
     ADD, BATCH, CHECK, CONSTRAIN, DIFF, EXPORT, FORGET, INIT, LOG, OUTDATED, REDO, RELOCK, REMOVE,
-    REPLACE, SHOW, SKIPPED, TRY, UNDO, UPGRADE, WHY,
+    REPLACE, RETARGET, SHOW, SKIPPED, TRY, UNDO, UPGRADE, WHY,
 };
 
 // Of an edit, or of its question.
@@ -69,7 +69,7 @@ pub(crate) const TELLING: [ArgWords<'static>; 3] = [
 ];
 
 /// All subcommands, in the order of the program's help.
-pub(crate) const SUBCOMMANDS: [SubcommandWords<'static>; 20] = [
+pub(crate) const SUBCOMMANDS: [SubcommandWords<'static>; 21] = [
     SubcommandWords {
         name: "init",
         help: INIT,
@@ -140,6 +140,11 @@ pub(crate) const SUBCOMMANDS: [SubcommandWords<'static>; 20] = [
             IF_NEEDED,
             DRY_RUN,
         ],
+    },
+    SubcommandWords {
+        name: "retarget",
+        help: RETARGET,
+        args: &[PINS, KEEP_LOCKED, IF_NEEDED, DRY_RUN],
     },
     SubcommandWords {
         name: "undo",
@@ -301,6 +306,10 @@ pub(crate) const SUBCOMMANDS: [SubcommandWords<'static>; 20] = [
                 0,
                 2,
                 "Ask about other lines, those of NEW",
+            ),
+            Flag(
+                "retarget",
+                "Ask about the environments given in the place of the present ones",
             ),
             WAS,
             LINE,

@@ -30,6 +30,13 @@ returns-in_err-needed_index-in-skipped-clause-fault c =
     let p = err_from_is_err_and c.from_residual-in_err-needed_index-in-skipped.result c.from_residual-in_err-needed_index-in-skipped.ensures.1 in
     rw (p.1, p.2) (index_lacks before behind c.args.name.now _ (inr (inr (inr (inl c.in-skipped.is)))) c.in_err-needed_index-in-skipped.ensures.missing)
 
+pub returns-in_err-targets-in-retarget-clause-fault : goal.returns-in_err-targets-in-retarget-clause-fault
+returns-in_err-targets-in-retarget-clause-fault c =
+    let before = rows_of (found_of c.args.before.now) in
+    let behind = rows_of (found_of c.args.behind.now) in
+    let p = err_from_is_err_and c.from_residual-in_err-targets-in-retarget.result c.from_residual-in_err-targets-in-retarget.ensures.1 in
+    rw (p.1, p.2) (input_lacks before behind c.args.name.now _ (inr (inr (inr (inr (inr (inr (inr (inl c.in-retarget.is)))))))) (inr (inr (inl c.in-retarget.is))) c.in_err-targets-in-retarget.ensures.missing)
+
 pub returns-in_err-question-in-why-clause-fault : goal.returns-in_err-question-in-why-clause-fault
 returns-in_err-question-in-why-clause-fault c =
     let before = rows_of (found_of c.args.before.now) in
@@ -44,4 +51,4 @@ returns-in_default-name-clause-fault c =
     let P : Option Subcommand → Type 0 = λ view. MatchOption view (AllByRecursion (λ known. c.args.name.now ≢ known) json_takers) (IsSubcommand before behind c.args.name.now) in
     let views = subst P c.in_default-2.is c.in_ok-view.ensures.subcommand in
     let d = c.in_default-name in
-    (sym c.in_ok-edit.ensures.edit ∙ c.in_default.is, (d.not-init, (d.not-replace, (d.not-undo, (d.not-redo, (d.not-forget, (d.not-batch, (d.not-try, (views.0, (views.1.0, (views.1.1.0, (views.1.1.1.0, (views.1.1.1.1.0, (d.not-export, (d.not-skipped, (d.not-why, tt))))))))))))))))
+    (sym c.in_ok-edit.ensures.edit ∙ c.in_default.is, (d.not-init, (d.not-replace, (d.not-retarget, (d.not-undo, (d.not-redo, (d.not-forget, (d.not-batch, (d.not-try, (views.0, (views.1.0, (views.1.1.0, (views.1.1.1.0, (views.1.1.1.1.0, (d.not-export, (d.not-skipped, (d.not-why, tt)))))))))))))))))
