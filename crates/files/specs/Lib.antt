@@ -1,3 +1,4 @@
 pub mod Beside
 pub mod RewriteParts
 pub mod Rewrites
+pub mod TargetLocks

@@ -1,9 +1,13 @@
 // What a history begins with.
 
+ghost use Rattle.std.specs.Prelude.{◌≡◌, IfOk, Ok, map};
+ghost use Rattle.inputs.specs.PinsFiles.{ArePinsFor, given_by};
+ghost use Rattle.inputs.specs.TargetFiles.{targets_in};
+
 use crate::saved_files::SavedFiles;
-use edits::{FirstTargets, ReqFile, Targets};
+use edits::{FirstTargets, ReqFile, TargetName, Targets};
 use inputs::handed_in::HandedIn;
-use inputs::named_file::NamedPath;
+use inputs::named_file::{NamedBytes, NamedPath};
 use inputs::pins_files::{LentTarget, pins_of, read_pins};
 use inputs::target_files::{TargetPath, read_all, targets_of};
 use inputs::{Fault, InputFile, in_file, read_bytes, read_index, read_requirements};
@@ -53,18 +57,34 @@ pub fn first_inputs<R: Files + AllocGlobal, I: Read + Drop>(
     let lines = read_requirements(alloc, files.requirements());
     let lines = in_file(InputFile::Requirements, lines)?;
     let snapshot = in_file(InputFile::Index, read_index(alloc, index.as_slice()))?;
-    let targets = targets_of(alloc, environments)?;
-    let pins = pins_of(alloc, pins, named_targets(alloc, &targets)?.as_slice())?;
+    let first = targets_with_pins(alloc, environments, pins)?;
     Ok(FirstInputs {
         files,
         lines,
-        first: FirstTargets { targets, pins },
+        first,
         snapshot,
     })
 }
 
+/// The targets with the environments that the bytes are, and what files pin for them. Faults of environments are told
+/// before those of pins.
+pub fn targets_with_pins(
+    alloc: Global,
+    environments: Vec<NamedBytes<TargetName>>,
+    pins: Vec<NamedBytes<Text>>,
+) -> Result<FirstTargets, Fault>
+    ensures targets { IfOk result (λ first. targets_in environments.items ≡ Ok first.targets) }
+    ensures pins { IfOk result (λ first. ArePinsFor first.targets first.pins) }
+{
+    let targets = targets_of(alloc, environments)?;
+    let pins = pins_of(alloc, pins, named_targets(alloc, &targets)?.as_slice())?;
+    Ok(FirstTargets { targets, pins })
+}
+
 /// The targets, for which pins may be handed in.
-fn named_targets(alloc: Global, targets: &Targets) -> Result<Vec<LentTarget<'_>>, AllocError> {
+fn named_targets(alloc: Global, targets: &Targets) -> Result<Vec<LentTarget<'_>>, AllocError>
+    ensures { IfOk result (λ named. map given_by named.items ≡ targets.now) }
+{
     let mut named = Vec::new(alloc);
     for (name, environment) in targets.as_slice() {
         named.push(LentTarget { name, environment })?;

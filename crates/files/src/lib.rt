@@ -2,18 +2,21 @@
 //!
 //! The requirements file, the lock of each target and the journal stand in one folder. `SavedFiles` reads them, opens
 //! the history that they stand for, and saves another in their place: each file is written whole beside its place,
-//! and only when all of them stand are they renamed to their places (`rewrite`). No first save goes through a
-//! link to what isn't reqlock's (`links_out`). What a save that was stopped has left beside is renamed to its place,
-//! or removed (`stopped_save`).
+//! and only when all of them stand are the locks of targets that went removed, and they renamed to their places
+//! (`rewrite`). No first save goes through a link to what isn't reqlock's (`links_out`), and no later one overwrites a
+//! file that isn't of the history (`standing_lock`). What a save that was stopped has left beside is renamed to its
+//! place, or removed (`stopped_save`).
 #![tactic(auto)]
 
 pub mod first_inputs;
+mod going_locks;
 pub mod hand_changed;
 pub mod held;
 mod links_out;
 mod rewrite;
 mod saved_files;
 pub mod saved_history;
+pub mod standing_lock;
 mod stopped_save;
 
 pub use crate::links_out::link_out;

@@ -1,7 +1,10 @@
 // Rewriting files so that none is ever half written: each is written whole beside its place, under
-// its name and `.new`, and only when all of them stand are they renamed to their paths.
+// its name and `.new`, and only when all of them stand are others removed, and they renamed to their paths.
+
+ghost use Rattle.std.specs.Prelude.{◌≡◌, IfOk};
 
 use inputs::{Fault, InputFile, LockFile, passed_over, path_of, sync_folder, unwritten};
+use std::alloc::{AllocError, Global};
 use std::fs::{File, Metadata, OpenFile, OpenOptions};
 use std::io::{ErrorKind, Write};
 use std::marker::Model;
@@ -38,13 +41,39 @@ pub struct FilePaths {
     pub beside: String,
 }
 
-/// Rewrites the files of a folder in turn. Where one can't be written, none is rewritten, and what was written
-/// beside is removed. Where one can't be renamed when others are, it stays beside with
-/// those behind it.
+/// A file that is to go, and where it stands. A link in its place goes itself. In a clause it is the file.
+#[derive(Drop)]
+pub struct GoingFile {
+    file: InputFile,
+    path: String,
+}
+
+impl Model for GoingFile {
+    ghost use Rattle.inputs.specs.declared.input_files.InputFile.{InputFile};
+
+    ghost Value = { InputFile };
+
+    ghost view = { λ g. g.file };
+}
+
+impl GoingFile {
+    /// A file of a folder.
+    pub fn of(alloc: Global, dir: &str, file: InputFile) -> Result<GoingFile, AllocError>
+        ensures { IfOk result (λ going. going ≡ file) }
+    {
+        let path = path_of(alloc, dir, &file)?;
+        Ok(GoingFile { file, path })
+    }
+}
+
+/// Removes files of a folder, and rewrites others in turn. Where one can't be written, or the first can't be removed,
+/// nothing is removed and none is rewritten, and what was written beside is removed. Where one can't be removed or
+/// renamed when others are, all that wasn't renamed stays beside.
 pub fn rewrite_all<R: Files + AllocGlobal>(
     rt: &R,
     dir: &str,
     rewrites: &[Rewrite<'_>],
+    going: &[GoingFile],
 ) -> Result<(), Fault>
 where
     R::File: LockFile,
@@ -59,19 +88,53 @@ where
             }
         }
     }
-    rename_all(rt, staged.as_slice())
+    let staged = staged.as_slice();
+    if let Some((first, others)) = going.split_first() {
+        if let Err(fault) = remove_going(rt, first) {
+            remove_staged(rt, staged);
+            return Err(fault);
+        }
+        remove_all(rt, others)?;
+    }
+    rename_all(rt, staged, going.is_empty())
 }
 
-fn rename_all<R: Files + AllocGlobal>(rt: &R, staged: &[FilePaths]) -> Result<(), Fault> {
+/// Renames all that stands beside to its place. Where nothing was changed before and the first one can't be, none stays
+/// beside.
+fn rename_all<R: Files + AllocGlobal>(
+    rt: &R,
+    staged: &[FilePaths],
+    is_untouched: bool,
+) -> Result<(), Fault> {
     for number in 0..staged.len() {
         if let Err(fault) = rename_to_path(rt, &staged[number]) {
-            if number == 0 {
+            if number == 0 && is_untouched {
                 remove_staged(rt, staged);
             }
             return Err(fault);
         }
     }
     Ok(())
+}
+
+/// Removes files in turn, up to the first that can't be.
+pub fn remove_all<R: Files + AllocGlobal>(rt: &R, going: &[GoingFile]) -> Result<(), Fault> {
+    for file in going {
+        remove_going(rt, file)?;
+    }
+    Ok(())
+}
+
+/// Removes a file, and makes that last before another one is changed. One that isn't there is gone.
+fn remove_going<R: Files + AllocGlobal>(rt: &R, going: &GoingFile) -> Result<(), Fault> {
+    match fs::remove_file(rt, going.path.as_str()) {
+        Ok(()) => {
+            sync_names(rt, going.path.as_str());
+            Ok(())
+        }
+        Err(error) if error.kind() == ErrorKind::NotFound => Ok(()),
+        Err(error) => Err(unwritten(going.file.clone()?, &error)),
+    }
 }
 
 fn remove_staged<R: Files>(rt: &R, staged: &[FilePaths]) {

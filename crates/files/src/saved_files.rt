@@ -5,10 +5,10 @@ ghost use Rattle.journal.specs.Opens.{NamesTargets, Opens, ToldBy};
 ghost use Rattle.states.specs.declared.refusal.Refusal.TheVariants.{JournalBroken};
 ghost use Rattle.files.specs.Beside.{StandFor};
 ghost use Rattle.inputs.specs.Faults.{TellsFault};
-ghost use Rattle.files.specs.Rewrites.{has_lock, lock_rewrites, rewrites_of, rewriting};
+ghost use Rattle.files.specs.Rewrites.{going_of, has_lock, is_known, is_left, lock_rewrites, rewrites_of, rewriting};
 ghost use Rattle.inputs.specs.declared.fault.Fault.TheVariants.{OutOfMemory};
 
-use crate::rewrite::{FilePaths, Rewrite, paths_at, rewrite_all};
+use crate::rewrite::{FilePaths, GoingFile, Rewrite, paths_at, rewrite_all};
 use crate::stopped_save::{Beside, end_save, remove_left_of_opened};
 use edits::{Refusal, TargetName};
 use inputs::{Fault, InputFault, InputFile, LockFile, path_of, read_bytes};
@@ -138,7 +138,8 @@ impl SavedFiles {
         }
     }
 
-    /// Saves a history in the place of these files. A file that doesn't change isn't touched.
+    /// Saves a history in the place of these files. A file that doesn't change isn't touched, and the lock of a
+    /// target that the history hasn't any more is removed.
     pub fn rewrite<R: Files + AllocGlobal>(
         &self,
         rt: &R,
@@ -150,11 +151,30 @@ impl SavedFiles {
     {
         let saved = session.save(rt.alloc())?;
         let rewrites = self.rewrites(rt.alloc(), &saved)?;
-        rewrite_all(rt, dir, rewrites.as_slice())
+        let going = self.going(rt.alloc(), dir, &saved)?;
+        rewrite_all(rt, dir, rewrites.as_slice(), going.as_slice())
+    }
+
+    /// The locks that were read, of targets that the saved history hasn't.
+    pub fn going(
+        &self,
+        alloc: Global,
+        dir: &str,
+        saved: &Saved,
+    ) -> Result<Vec<GoingFile>, AllocError>
+        ensures { IfOk result (λ files. files.items ≡ going_of self.now saved.now) }
+    {
+        let mut files = Vec::new(alloc);
+        for (name, _lock) in &self.locks {
+            if !saved.locks.contains_key(name) {
+                files.push(GoingFile::of(alloc, dir, InputFile::Lock(name.clone()?))?)?;
+            }
+        }
+        Ok(files)
     }
 
     /// The files that are to hold other bytes than were read, with these: the requirements file, the locks by
-    /// name, and the journal.
+    /// name, and the journal. The locks of targets that come stand behind the journal, which names them.
     pub fn rewrites<'a>(
         &self,
         alloc: Global,
@@ -166,28 +186,48 @@ impl SavedFiles {
         let text = saved.requirements.as_str();
         let is_same = self.requirements.as_slice() == text.as_bytes();
         push_unless(&mut files, is_same, InputFile::Requirements, text)?;
-        self.push_locks(&mut files, &saved.locks)?;
+        self.push_locks(&mut files, &saved.locks, true)?;
         let text = saved.journal.as_str();
         let is_same = self.journal.bytes() == text.as_bytes();
         push_unless(&mut files, is_same, InputFile::Journal, text)?;
+        self.push_locks(&mut files, &saved.locks, false)?;
         Ok(files)
     }
 
-    /// Puts the locks that are to hold other bytes behind other files.
+    /// Puts the locks that are to hold other bytes behind other files: of known targets, or of the others.
     fn push_locks<'a>(
         &self,
         files: &mut Vec<Rewrite<'a>>,
         locks: &'a BTreeMap<TargetName, Text>,
+        are_known: bool,
     ) -> Result<(), AllocError>
         ensures { OnOk result (files.new.items ≡ files.old.items
-            ++ lock_rewrites self.now locks.now.entries) }
+            ++ lock_rewrites self.now are_known locks.now.entries) }
     {
         for (name, lock) in locks {
             let text = lock.as_str();
-            let is_same = self.has_lock(name, text.as_bytes());
-            push_unless(files, is_same, InputFile::Lock(name.clone()?), text)?;
+            let is_left = self.is_left(name, text.as_bytes(), are_known);
+            push_unless(files, is_left, InputFile::Lock(name.clone()?), text)?;
         }
         Ok(())
+    }
+
+    /// Whether the lock of the target isn't among those that are to hold other bytes.
+    fn is_left(&self, name: &TargetName, bytes: &[u8], are_known: bool) -> bool
+        ensures { result ≡ is_left self.now are_known name.now bytes.now }
+    {
+        if are_known {
+            self.has_lock(name, bytes) || !self.is_known(name)
+        } else {
+            self.is_known(name)
+        }
+    }
+
+    /// Whether the lock of the target was read, or none was.
+    fn is_known(&self, name: &TargetName) -> bool
+        ensures { result ≡ is_known self.now name.now }
+    {
+        self.locks.is_empty() || self.locks.contains_key(name)
     }
 
     /// Whether the lock of the target was read, and holds these bytes.

@@ -4,7 +4,8 @@ ghost use Rattle.std.specs.Prelude.{◌≡◌, ◌++◌, [], IfOk, IsSomeAnd, On
 ghost use Rattle.journal.specs.Past.{IsAtEnd, IsRedone, IsUndone, present};
 ghost use Rattle.files.specs.Beside.{completed_by, files_of, has, has_lines, has_requirements, one_where};
 
-use crate::rewrite::{FilePaths, rename_to_path};
+use crate::going_locks::going_with;
+use crate::rewrite::{FilePaths, GoingFile, remove_all, rename_to_path};
 use crate::saved_files::{SavedFiles, journal_in, names_in, paths_in, read_in};
 use edits::TargetName;
 use inputs::{Fault, InputFile};
@@ -103,7 +104,7 @@ pub fn end_save<R: Files + AllocGlobal>(rt: &R, dir: &str) -> Result<bool, Fault
     for (requirements, journal) in LEFT_BESIDE {
         let beside = Beside::of(rt.alloc(), requirements, journal);
         if let Some(left) = left_with(rt, dir, beside)? {
-            rename_left(rt, dir, &left)?;
+            end_with(rt, dir, &left)?;
             return Ok(true);
         }
     }
@@ -196,8 +197,18 @@ fn add_names(alloc: Global, beside: &mut Beside, journal: &Journal) -> Result<()
     Ok(())
 }
 
-fn rename_left<R: Files + AllocGlobal>(rt: &R, dir: &str, left: &Beside) -> Result<(), Fault> {
-    let all = all_paths(rt, dir, left)?;
+/// What a save that was stopped has left to do.
+#[derive(Drop)]
+struct Left {
+    // the files that are to be renamed to their places
+    beside: Beside,
+    // the locks that are to go before
+    going: Vec<GoingFile>,
+}
+
+fn end_with<R: Files + AllocGlobal>(rt: &R, dir: &str, left: &Left) -> Result<(), Fault> {
+    let all = all_paths(rt, dir, &left.beside)?;
+    remove_all(rt, left.going.as_slice())?;
     for paths in all.as_slice() {
         rename_to_path(rt, paths)?;
     }
@@ -220,24 +231,29 @@ fn all_paths<R: Files + AllocGlobal>(
     Ok(found)
 }
 
-/// What a save left beside, where the files open with these from there and with each lock that doesn't
+/// What a save left to do, where the files open with these from beside and with each lock that doesn't
 /// fit in its place. A requirements file gives way only where its history has it: one that was changed by
 /// hand stays.
 fn left_with<R: Files + AllocGlobal>(
     rt: &R,
     dir: &str,
     beside: Beside,
-) -> Result<Option<Beside>, Fault> {
-    let Some((left, session)) = completed(rt, dir, beside)? else {
+) -> Result<Option<Left>, Fault> {
+    let Some((beside, session)) = completed(rt, dir, beside)? else {
         return Ok(None);
     };
-    if left.requirements {
+    let going = if beside.journal {
+        going_with(rt, dir, &session)?
+    } else {
+        Vec::new(rt.alloc())
+    };
+    if beside.requirements {
         let standing = read_in(rt, dir, InputFile::Requirements, &Beside::none(rt.alloc()))?;
         if !has_requirements(rt.alloc(), session, standing.as_slice())? {
             return Ok(None);
         }
     }
-    Ok(Some(left))
+    Ok(Some(Left { beside, going }))
 }
 
 /// The files with which the folder opens, and what it stands for with them. A lock that is told not to

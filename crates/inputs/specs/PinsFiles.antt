@@ -1,10 +1,11 @@
 -- Files of pins, and the targets that they are for. All of it is reqlock's own rule.
-use Rattle.std.specs.Prelude.{ℕ, ◌==◌, ◌/◌, ◌&&◌, nat_lt, count_by, Bool, List, filter, flat_map, length, map, Result, Ok, Err, if◌then◌else◌}
+use Rattle.std.specs.Prelude.{◌≡◌, ℕ, ◌==◌, ◌/◌, ◌&&◌, nat_lt, count_by, Bool, List, filter, flat_map, length, map, Result, Ok, Err, if◌then◌else◌}
 use Rattle.std.specs.List.{list_any}
 use Rattle.std.specs.Str.{bytes_eq}
 use Rattle.markers.specs.Environment.{Texts}
 use Rattle.pep440.specs.Version.{VersionParts}
 use Rattle.edits.specs.declared.pins.TargetPins.{TargetPins}
+use Rattle.states.specs.declared.target.Target.{Target}
 use Rattle.inputs.specs.Pins.{locked_pins, pins_in, written_pins}
 use Rattle.inputs.specs.declared.pin_fault.PinFault.{PinFault}
 use Rattle.inputs.specs.declared.pin_fault.PinFault.TheVariants as pins
@@ -46,6 +47,21 @@ is_for has_own target file = if has_own then bytes_eq file.target target else le
 abbrev pub versions_for : List PinsFile → List ℕ → Texts → List (List ℕ × VersionParts)
 versions_for files target environment = flat_map (λ f. pins_in environment f.file) (filter (is_for (has_own files target) target) files)
 
+-- what files pin for each of these named environments
+abbrev pub pins_for_each : List PinsFile → List (List ℕ × Texts) → List TargetPins
+pins_for_each files given = map (λ p. record { target = p.0; versions = versions_for files p.0 p.1 }) given
+
+-- a target that is lent, and one with its lock, as a named environment
+abbrev pub given_by : LentTarget → List ℕ × Texts
+given_by target = (target.name.now, target.environment.now)
+
+abbrev pub without_lock : Target → List ℕ × Texts
+without_lock target = (target.name, target.environment)
+
 -- what files pin for each of the targets
 abbrev pub pins_for : List PinsFile → List LentTarget → List TargetPins
-pins_for files targets = map (λ t. record { target = t.name.now; versions = versions_for files t.name.now t.environment.now }) targets
+pins_for files targets = pins_for_each files (map given_by targets)
+
+-- some files pin this for each of these named environments
+abbrev pub ArePinsFor : List (List ℕ × Texts) → List TargetPins → Type 0
+ArePinsFor given pins = (files : List PinsFile) × (pins ≡ pins_for_each files given)

@@ -1,7 +1,7 @@
 // The values of `--pins`: files of pins, and the targets that they are for.
 
 ghost use Rattle.lists.specs.Answers.{Answers};
-ghost use Rattle.std.specs.Prelude.{◌≡◌, ◌++◌, IfOk, OnOk};
+ghost use Rattle.std.specs.Prelude.{◌≡◌, ◌++◌, IfOk, OnOk, map};
 ghost use Rattle.inputs.specs.Pins.{pins_in};
 ghost use Rattle.inputs.specs.PinsFiles as spec;
 ghost use Rattle.inputs.specs.declared.input_files.InputFault.TheVariants.{OutOfMemory};
@@ -128,7 +128,9 @@ pub fn pins_of(
     alloc: Global,
     read: Vec<NamedBytes<Text>>,
     targets: &[LentTarget<'_>],
-) -> Result<Seq<TargetPins>, Fault> {
+) -> Result<Seq<TargetPins>, Fault>
+    ensures { IfOk result (λ pins. spec.ArePinsFor (map spec.given_by targets.now) pins) }
+{
     let files = pins_files(alloc, read)?;
     for file in files.as_slice() {
         let name = file.target.as_str();

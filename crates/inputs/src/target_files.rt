@@ -7,7 +7,7 @@ ghost use Rattle.states.specs.TargetNames.{is_target_name};
 ghost use Rattle.states.specs.declared.refusal.Refusal.TheVariants.{BadTarget, DuplicateTarget};
 ghost use Rattle.inputs.specs.Faults.{refused};
 ghost use Rattle.inputs.specs.FileNames.{parts_of};
-ghost use Rattle.inputs.specs.TargetFiles.{are_named, environments_in, has_name, name_in, named_environment, names_of, path_named, repeated, target_file_of, target_files_of, targets_in};
+ghost use Rattle.inputs.specs.TargetFiles.{are_named, environments_in, has_name, name_in, named_environment, names_of, names_read, path_named, repeated, target_file_of, target_files_of, targets_in};
 ghost use Rattle.inputs.specs.declared.fault.Fault.TheVariants.{OutOfMemory};
 
 use crate::fault::{Fault, in_file};
@@ -145,8 +145,7 @@ pub fn read_all<R: Files + AllocGlobal>(
     rt: &R,
     files: Vec<TargetPath>,
 ) -> Result<Vec<NamedBytes<TargetName>>, Fault>
-    ensures { IfOk result
-        (λ read. map (λ target. target.name) read.items ≡ names_of files.items) }
+    ensures { IfOk result (λ read. names_read read.items ≡ names_of files.items) }
 {
     let mut read = Vec::with_capacity(rt.alloc(), files.len())?;
     for NamedPath { name, path } in files {

@@ -1,0 +1,89 @@
+// The locks that go when a save that was stopped is ended.
+
+ghost use Rattle.std.specs.Prelude.{◌≡◌, IfOk};
+ghost use Rattle.files.specs.TargetLocks.{AreGone, has_gone, has_target, is_told_of, locks_gone, tells_of};
+
+use crate::rewrite::GoingFile;
+use crate::saved_files::{journal_in, names_in};
+use crate::stopped_save::Beside;
+use edits::{Change, Target, TargetName};
+use inputs::{Fault, InputFile};
+use journal::Session;
+use lists::Seq;
+use std::alloc::{AllocError, Global};
+use std::rt::Files;
+
+/// The locks that go with the journal in its place, where that of this history takes its place: of targets that the one in
+/// its place has, and of which a step of this history tells that they went. A first lock removes none.
+pub(crate) fn going_with<R: Files + AllocGlobal>(
+    rt: &R,
+    dir: &str,
+    session: &Session,
+) -> Result<Vec<GoingFile>, Fault>
+    ensures { IfOk result (λ going. AreGone session.now going.items) }
+{
+    let names = standing_names(rt, dir)?;
+    let targets = session.state().targets();
+    Ok(locks_gone(rt.alloc(), dir, names, targets, session.changes())?)
+}
+
+/// The targets that the journal in its place has. One that can't be read has none.
+fn standing_names<R: Files + AllocGlobal>(rt: &R, dir: &str) -> Result<Seq<TargetName>, Fault> {
+    match journal_in(rt, dir, &Beside::none(rt.alloc())) {
+        Ok(journal) => names_in(rt.alloc(), &journal),
+        Err(Fault::Input(_file, _fault)) => Ok(Seq::new(rt.alloc())),
+        Err(fault) => Err(fault),
+    }
+}
+
+/// The locks of those of these names whose targets went, of a history with these targets now and these changes.
+fn locks_gone(
+    alloc: Global,
+    dir: &str,
+    names: Seq<TargetName>,
+    targets: &[Target],
+    changes: &[Change],
+) -> Result<Vec<GoingFile>, AllocError>
+    ensures { IfOk result (λ files. files.items ≡ locks_gone targets.now changes.now names) }
+{
+    let mut files = Vec::new(alloc);
+    for name in names.into_vec() {
+        if has_gone(targets, changes, &name) {
+            files.push(GoingFile::of(alloc, dir, InputFile::Lock(name))?)?;
+        }
+    }
+    Ok(files)
+}
+
+/// Whether none of the targets has the name, and a change tells of it.
+fn has_gone(targets: &[Target], changes: &[Change], name: &TargetName) -> bool
+    ensures { result ≡ has_gone targets.now changes.now name.now }
+{
+    !has_target(targets, name) && is_told_of(changes, name)
+}
+
+/// Whether one of the targets has the name.
+fn has_target(targets: &[Target], name: &TargetName) -> bool
+    ensures { result ≡ has_target targets.now name.now }
+{
+    targets
+        .iter()
+        .any(|target| target.name.as_str() == name.as_str())
+}
+
+/// Whether a change tells of the target of the name.
+fn is_told_of(changes: &[Change], name: &TargetName) -> bool
+    ensures { result ≡ is_told_of changes.now name.now }
+{
+    changes.iter().any(|change| names_target(change, name))
+}
+
+/// Whether this one does.
+fn names_target(change: &Change, name: &TargetName) -> bool
+    ensures { result ≡ tells_of name.now change.now }
+{
+    change
+        .targets()
+        .iter()
+        .any(|target| target.name.as_str() == name.as_str())
+}
