@@ -1,2 +1,4 @@
+pub mod Replaces
+pub mod Retargets
 pub mod Stops
 pub mod SubcommandFiles

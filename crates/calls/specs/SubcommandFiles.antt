@@ -17,6 +17,7 @@ abbrev pub index_of : Subcommand → Option (Bor (List ℕ))
 index_of (subcommands.Init inputs saving) = Some inputs.index
 index_of (subcommands.Edit edit inputs saving) = Some inputs.index
 index_of (subcommands.Replace replacement inputs saving) = Some inputs.index
+index_of (subcommands.Retarget targets inputs saving) = Some inputs.index
 index_of (subcommands.Batch inputs all) = Some inputs.index
 index_of (subcommands.Try inputs) = Some inputs.index
 index_of (subcommands.Show (shown.Entry name index) format) = index
@@ -27,6 +28,7 @@ index_of (subcommands.Skipped index) = Some index
 index_of (subcommands.Why (questions.Init inputs line) told) = Some inputs.index
 index_of (subcommands.Why (questions.Edit edit inputs) told) = Some inputs.index
 index_of (subcommands.Why (questions.Replace replacement inputs) told) = Some inputs.index
+index_of (subcommands.Why (questions.Retarget targets inputs) told) = Some inputs.index
 index_of (subcommands.Why (questions.Release release index) told) = Some index
 index_of other = None
 
@@ -35,6 +37,8 @@ abbrev pub environments_of : Subcommand → List (List ℕ)
 environments_of (subcommands.Init inputs saving) = inputs.environments
 environments_of (subcommands.Try inputs) = inputs.environments
 environments_of (subcommands.Why (questions.Init inputs line) told) = inputs.environments
+environments_of (subcommands.Retarget targets inputs saving) = targets.environments
+environments_of (subcommands.Why (questions.Retarget targets inputs) told) = targets.environments
 environments_of other = []
 
 -- where the new lines of a replacement are

@@ -8,11 +8,15 @@ mod call;
 mod difference;
 mod first_files;
 mod pool;
+mod read_edit;
 mod replacement;
+mod retargeting;
 pub mod subcommand_files;
 
 pub use crate::call::Call;
 pub use crate::difference::difference_between;
 pub use crate::first_files::first_paths;
 pub use crate::pool::pool_of;
-pub use crate::replacement::{ReplacedHistory, replaced, replaced_to_save};
+pub use crate::read_edit::ReadEdit;
+pub use crate::replacement::{replaced, replaced_to_save};
+pub use crate::retargeting::{NewTargetPaths, new_target_paths, retargeted, retargeted_to_save};

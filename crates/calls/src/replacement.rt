@@ -1,5 +1,10 @@
 // What `replace` reads, and the edit that it is.
 
+ghost use Rattle.std.specs.Prelude.{◌≡◌, IfOk, map};
+ghost use Rattle.calls.specs.Replaces.{IsReplacement};
+ghost use Rattle.inputs.specs.PinsFiles.{ArePinsFor, given_by, without_lock};
+
+use crate::read_edit::ReadEdit;
 use command_line::request::{EditInputs, NewLines, Replacement};
 use edits::{Edit, Refusal, ReqFile, Target, TargetPins, with_line_exchanged};
 use files::SavedFiles;
@@ -11,17 +16,10 @@ use inputs::pins_files::{LentTarget, pins_of, pins_paths, read_pins};
 use inputs::{Fault, InputFile, LockFile, in_file, read_bytes, read_index, read_requirements};
 use journal::Session;
 use lists::{Seq, Text};
-use std::alloc::Global;
+use std::alloc::{AllocError, Global};
 use std::io::Read;
 use std::rt::Files;
 use stops::Stop;
-
-/// The history that a replacement is made in, and the edit that it is.
-#[derive(Drop)]
-pub struct ReplacedHistory {
-    pub history: SavedHistory,
-    pub edit: Edit,
-}
 
 /// The lines that take the place of all lines, or what they are made of.
 #[derive(Drop)]
@@ -42,7 +40,9 @@ pub fn replaced_to_save<R: Files + AllocGlobal, I: Read + Drop>(
     replacement: &Replacement<'_>,
     inputs: EditInputs<'_>,
     input: I,
-) -> Result<ReplacedHistory, Stop> {
+) -> Result<ReadEdit, Stop>
+    ensures { IfOk result (λ read. IsReplacement read.history.session read.edit) }
+{
     let files = SavedFiles::read_to_save(rt, dir)?;
     let read = read_handed(rt, replacement, inputs, input)?;
     let (files, session) = match &read.lines {
@@ -59,9 +59,10 @@ pub fn replaced<R: Files + AllocGlobal, I: Read + Drop>(
     replacement: &Replacement<'_>,
     inputs: EditInputs<'_>,
     input: I,
-) -> Result<ReplacedHistory, Stop>
+) -> Result<ReadEdit, Stop>
 where
     R::File: LockFile,
+    ensures { IfOk result (λ read. IsReplacement read.history.session read.edit) }
 {
     let alloc = rt.alloc();
     let files = saved_files(rt, dir)?;
@@ -105,7 +106,9 @@ fn made_of(
     files: SavedFiles,
     session: Session,
     read: HandedRead<'_>,
-) -> Result<ReplacedHistory, Stop> {
+) -> Result<ReadEdit, Stop>
+    ensures { IfOk result (λ made. IsReplacement made.history.session made.edit) }
+{
     let HandedRead { index, lines, pins } = read;
     let snapshot = in_file(InputFile::Index, read_index(alloc, index.as_slice()))?;
     let lines = new_lines(alloc, &files, &session, &lines)?;
@@ -116,7 +119,7 @@ fn made_of(
         session,
         snapshot,
     };
-    Ok(ReplacedHistory { history, edit })
+    Ok(ReadEdit { history, edit })
 }
 
 /// The new lines, or why a line isn't exchanged, which is told behind the faults of all files. Where the folder's file
@@ -149,7 +152,17 @@ fn pins_for_targets(
     alloc: Global,
     targets: &[Target],
     read: Vec<NamedBytes<Text>>,
-) -> Result<Seq<TargetPins>, Fault> {
+) -> Result<Seq<TargetPins>, Fault>
+    ensures { IfOk result (λ pins. ArePinsFor (map without_lock targets.now) pins) }
+{
+    let given = lent_targets(alloc, targets)?;
+    pins_of(alloc, read, given.as_slice())
+}
+
+/// The names and environments of targets.
+fn lent_targets(alloc: Global, targets: &[Target]) -> Result<Vec<LentTarget<'_>>, AllocError>
+    ensures { IfOk result (λ given. map given_by given.items ≡ map without_lock targets.now) }
+{
     let mut given = Vec::with_capacity(alloc, targets.len())?;
     for target in targets {
         given.push(LentTarget {
@@ -157,5 +170,5 @@ fn pins_for_targets(
             environment: &target.environment,
         })?;
     }
-    pins_of(alloc, read, given.as_slice())
+    Ok(given)
 }

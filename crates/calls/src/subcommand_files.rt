@@ -19,10 +19,14 @@ pub fn index_of<'a>(subcommand: &Subcommand<'a>) -> Option<&'a str>
         | Subcommand::Why(Question::Init(inputs, _), _) => Some(inputs.index),
         Subcommand::Edit(_, inputs, _)
         | Subcommand::Replace(_, inputs, _)
+        | Subcommand::Retarget(_, inputs, _)
         | Subcommand::Batch(inputs, _)
-        | Subcommand::Why(Question::Edit(_, inputs) | Question::Replace(_, inputs), _) => {
-            Some(inputs.index)
-        }
+        | Subcommand::Why(
+            Question::Edit(_, inputs)
+            | Question::Replace(_, inputs)
+            | Question::Retarget(_, inputs),
+            _,
+        ) => Some(inputs.index),
         Subcommand::Outdated(index, _)
         | Subcommand::Skipped(index)
         | Subcommand::Why(Question::Release(_, index), _) => Some(*index),
@@ -85,6 +89,8 @@ pub fn environments_of<'a>(subcommand: &'a Subcommand<'_>) -> &'a [Text]
         Subcommand::Init(inputs, _)
         | Subcommand::Try(inputs)
         | Subcommand::Why(Question::Init(inputs, _), _) => inputs.environments.as_slice(),
+        Subcommand::Retarget(targets, _, _) | Subcommand::Why(Question::Retarget(targets, _), _) =>
+            targets.environments.as_slice(),
         Subcommand::Edit(_, _, _)
         | Subcommand::Replace(_, _, _)
         | Subcommand::Undo(_)
@@ -131,6 +137,7 @@ where
         Subcommand::Init(_, Saving::Save)
         | Subcommand::Edit(_, _, Saving::Save)
         | Subcommand::Replace(_, _, Saving::Save)
+        | Subcommand::Retarget(_, _, Saving::Save)
         | Subcommand::Undo(Saving::Save)
         | Subcommand::Redo(Saving::Save)
         | Subcommand::Forget(_, Saving::Save)
@@ -138,6 +145,7 @@ where
         Subcommand::Init(_, Saving::DryRun)
         | Subcommand::Edit(_, _, Saving::DryRun)
         | Subcommand::Replace(_, _, Saving::DryRun)
+        | Subcommand::Retarget(_, _, Saving::DryRun)
         | Subcommand::Undo(Saving::DryRun)
         | Subcommand::Redo(Saving::DryRun)
         | Subcommand::Forget(_, Saving::DryRun)

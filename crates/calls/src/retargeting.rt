@@ -1,0 +1,138 @@
+// What `retarget` reads, and the edit that it is.
+
+ghost use Rattle.std.specs.Prelude.{◌≡◌, IfOk};
+ghost use Rattle.calls.specs.Retargets.{IsRetarget, LeadsToNamed};
+ghost use Rattle.files.specs.Beside.{StandFor};
+ghost use Rattle.inputs.specs.TargetFiles.{names_of, names_read};
+
+use crate::read_edit::ReadEdit;
+use command_line::request::{EditInputs, NewTargets};
+use edits::{Edit, FirstTargets, TargetName};
+use files::SavedFiles;
+use files::first_inputs::targets_with_pins;
+use files::saved_history::{SavedHistory, saved_files};
+use inputs::handed_in::HandedIn;
+use inputs::named_file::{NamedBytes, NamedPath};
+use inputs::pins_files::{pins_paths, read_pins};
+use inputs::target_files::{TargetPath, read_all};
+use inputs::{Fault, InputFile, LockFile, in_file, read_bytes, read_index};
+use journal::Session;
+use lists::Text;
+use std::alloc::{AllocError, Global};
+use std::io::Read;
+use std::rt::Files;
+use stops::Stop;
+
+/// Where the files stand of the targets that take the place of the present ones.
+#[derive(Drop)]
+pub struct NewTargetPaths {
+    pub targets: Vec<TargetPath>,
+    /// The pins that count for new ones.
+    pub pins: Vec<NamedPath<Text>>,
+}
+
+/// The targets, and where the pins stand that are given with them.
+pub fn new_target_paths(
+    alloc: Global,
+    given: &NewTargets,
+    targets: Vec<TargetPath>,
+) -> Result<NewTargetPaths, AllocError>
+    ensures { IfOk result (λ paths. paths.targets ≡ targets) }
+{
+    let pins = pins_paths(alloc, given.pins.as_slice())?;
+    Ok(NewTargetPaths { targets, pins })
+}
+
+/// Reads what a retarget needs, to save a history in the place of the one that it is made in. A save that was stopped is
+/// ended first. All files are read before a fault in one of them is told.
+pub fn retargeted_to_save<R: Files + AllocGlobal, I: Read + Drop>(
+    rt: &R,
+    dir: &str,
+    paths: NewTargetPaths,
+    inputs: EditInputs<'_>,
+    input: I,
+) -> Result<ReadEdit, Stop>
+    ensures history { IfOk result (λ read. StandFor read.history.files read.history.session) }
+    ensures edit { IfOk result (λ read. LeadsToNamed paths.targets.items read.edit) }
+{
+    let files = SavedFiles::read_to_save(rt, dir)?;
+    let read = read_handed(rt, paths, inputs, input)?;
+    let (files, session) = files.open_to_save(rt, dir)?;
+    Ok(made_of(rt.alloc(), files, session, read)?)
+}
+
+/// The same, where nothing is to be saved: the files are read as they stand.
+pub fn retargeted<R: Files + AllocGlobal, I: Read + Drop>(
+    rt: &R,
+    dir: &str,
+    paths: NewTargetPaths,
+    inputs: EditInputs<'_>,
+    input: I,
+) -> Result<ReadEdit, Stop>
+where
+    R::File: LockFile,
+    ensures history { IfOk result (λ read. StandFor read.history.files read.history.session) }
+    ensures edit { IfOk result (λ read. LeadsToNamed paths.targets.items read.edit) }
+{
+    let files = saved_files(rt, dir)?;
+    let read = read_handed(rt, paths, inputs, input)?;
+    let session = files.open(rt.alloc())?;
+    Ok(made_of(rt.alloc(), files, session, read)?)
+}
+
+// What was read beside the files of the folder.
+#[derive(Drop)]
+struct HandedRead {
+    index: Vec<u8>,
+    environments: Vec<NamedBytes<TargetName>>,
+    pins: Vec<NamedBytes<Text>>,
+}
+
+fn read_handed<R: Files + AllocGlobal, I: Read + Drop>(
+    rt: &R,
+    paths: NewTargetPaths,
+    inputs: EditInputs<'_>,
+    input: I,
+) -> Result<HandedRead, Fault>
+    ensures { IfOk result
+        (λ read. names_read read.environments.items ≡ names_of paths.targets.items) }
+{
+    let NewTargetPaths { targets, pins } = paths;
+    let index = read_bytes(rt, InputFile::Index, inputs.index)?;
+    let environments = read_all(rt, targets)?;
+    let pins = read_pins(&mut HandedIn::new(rt, input), pins)?;
+    Ok(HandedRead {
+        index,
+        environments,
+        pins,
+    })
+}
+
+/// The edit over the history and the index.
+fn made_of(
+    alloc: Global,
+    files: SavedFiles,
+    session: Session,
+    read: HandedRead,
+) -> Result<ReadEdit, Fault>
+    ensures files { IfOk result (λ made. made.history.files ≡ files) }
+    ensures session { IfOk result (λ made. made.history.session ≡ session) }
+    ensures edit { IfOk result (λ made. IsRetarget read.environments.items made.edit) }
+{
+    let HandedRead {
+        index,
+        environments,
+        pins,
+    } = read;
+    let snapshot = in_file(InputFile::Index, read_index(alloc, index.as_slice()))?;
+    let FirstTargets { targets, pins } = targets_with_pins(alloc, environments, pins)?;
+    let history = SavedHistory {
+        files,
+        session,
+        snapshot,
+    };
+    Ok(ReadEdit {
+        history,
+        edit: Edit::Retarget(targets, pins),
+    })
+}
