@@ -12,7 +12,8 @@ pub fn lines_of<'e>(edit: &'e Edit, state: &'e State) -> &'e [Line] {
         | Edit::Constrain(_, _)
         | Edit::Upgrade(_)
         | Edit::UpgradeAll
-        | Edit::Relock => state.lines().lines(),
+        | Edit::Relock
+        | Edit::Retarget(_, _) => state.lines().lines(),
     }
 }
 
@@ -22,8 +23,10 @@ pub fn changed_by(edit: &Edit) -> ChangedLine<'_> {
         Edit::Add(text) => ChangedLine::Added(text),
         Edit::Remove(name) => ChangedLine::Removed(name),
         Edit::Constrain(name, _) => ChangedLine::Constrained(name),
-        Edit::Upgrade(_) | Edit::UpgradeAll | Edit::Relock | Edit::Replace(_, _) => {
-            ChangedLine::Same
-        }
+        Edit::Upgrade(_)
+        | Edit::UpgradeAll
+        | Edit::Relock
+        | Edit::Replace(_, _)
+        | Edit::Retarget(_, _) => ChangedLine::Same,
     }
 }

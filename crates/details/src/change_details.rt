@@ -176,7 +176,8 @@ impl Details {
                 | Edit::Remove(_)
                 | Edit::Constrain(_, _)
                 | Edit::Relock
-                | Edit::Replace(_, _),
+                | Edit::Replace(_, _)
+                | Edit::Retarget(_, _),
                 _,
             )
             | Command::Undo

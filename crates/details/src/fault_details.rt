@@ -1,7 +1,7 @@
 // What is told of a file for which a call stops: why, and what to type next.
 
 use crate::details::{CallFiles, Details};
-use edits::{Cause, Refusal, Target};
+use edits::{Cause, Refusal, Target, TargetName};
 use inputs::target_files::environment_path;
 use inputs::{InputFault, InputFile, LinkOut, NO_REGULAR_FILE, TOO_LONG, path_of, read_file};
 use notes::{
@@ -183,6 +183,32 @@ impl Details {
         self.known.push_str(
             ", which is none of reqlock's files: remove the link, so that a file is written here\n",
         )
+    }
+
+    /// Notes, in the place of all else, that nothing is saved since a file stands in the place of the lock of a target that
+    /// comes; and whether its versions may be handed in.
+    pub fn add_standing(
+        &mut self,
+        target: &TargetName,
+        takes_pins: bool,
+    ) -> Result<(), AllocError> {
+        if !self.manner.tells {
+            return Ok(());
+        }
+        self.begin_fault();
+        let file = target.lock_file();
+        write!(
+            self.known,
+            "{file} stands there already, and isn't the lock that comes there: remove it, or move it elsewhere"
+        )?;
+        if takes_pins {
+            self.known.push_str(" and hand its versions in by --pins ")?;
+            if !target.is_empty() {
+                write!(self.known, "{target}=")?;
+            }
+            self.known.push_str("FILE")?;
+        }
+        self.known.push_str("\n")
     }
 
     /// The path of a file that can't be read, and the cause that the system tells. No folder has the empty name.

@@ -44,6 +44,7 @@ impl Details {
             | "upgrade"
             | "relock"
             | "replace"
+            | "retarget"
             | "undo"
             | "redo"
             | "forget"

@@ -27,7 +27,7 @@ pub(crate) fn add_bad_text_steps(
             add_comparison(alloc, text, options, name.as_str(), specifiers.as_str())
         }
         Edit::Constrain(name, _) => add_bound(alloc, text, options, name.as_str()),
-        Edit::UpgradeAll | Edit::Relock | Edit::Replace(_, _) => Ok(()),
+        Edit::UpgradeAll | Edit::Relock | Edit::Replace(_, _) | Edit::Retarget(_, _) => Ok(()),
     }
 }
 

@@ -75,7 +75,7 @@ fn is_named(alloc: Global, edit: &Edit, name: &Name) -> Result<bool, AllocError>
             Ok(false)
         }
         Edit::UpgradeAll => Ok(true),
-        Edit::Relock | Edit::Replace(_, _) => Ok(false),
+        Edit::Relock | Edit::Replace(_, _) | Edit::Retarget(_, _) => Ok(false),
     }
 }
 

@@ -80,9 +80,12 @@ fn add_lines_on(
 ) -> Result<(), AllocError> {
     let name = match edit {
         Edit::Remove(name) | Edit::Constrain(name, _) => name,
-        Edit::Add(_) | Edit::Upgrade(_) | Edit::UpgradeAll | Edit::Relock | Edit::Replace(_, _) => {
-            return Ok(());
-        }
+        Edit::Add(_)
+        | Edit::Upgrade(_)
+        | Edit::UpgradeAll
+        | Edit::Relock
+        | Edit::Replace(_, _)
+        | Edit::Retarget(_, _) => return Ok(()),
     };
     let name = match Name::read(alloc, name.as_str()) {
         Ok(name) => name,
@@ -119,7 +122,7 @@ fn add_bad_text(alloc: Global, text: &mut String, edit: &Edit) -> Result<(), All
             }
             Ok(())
         }
-        Edit::UpgradeAll | Edit::Relock | Edit::Replace(_, _) => Ok(()),
+        Edit::UpgradeAll | Edit::Relock | Edit::Replace(_, _) | Edit::Retarget(_, _) => Ok(()),
     }
 }
 
@@ -170,10 +173,7 @@ fn add_lacking_names(
     edit: &Edit,
     snapshot: &Snapshot,
 ) -> Result<(), AllocError> {
-    let mut environments = Vec::new(alloc);
-    for target in state.targets() {
-        environments.push(&target.environment)?;
-    }
+    let environments = environments_after(alloc, state, edit)?;
     let environments = environments.as_slice();
     add_lacking(alloc, text, state.lines().lines(), environments, snapshot)?;
     let Edit::Add(line) = edit else {
@@ -184,6 +184,28 @@ fn add_lacking_names(
         Err(Cause::OutOfMemory) => Err(AllocError),
         Err(_) => Ok(()),
     }
+}
+
+/// The environments that an edit of a state locks for.
+pub(crate) fn environments_after<'a>(
+    alloc: Global,
+    state: &'a State,
+    edit: &'a Edit,
+) -> Result<Vec<&'a Environment>, AllocError> {
+    let mut environments = Vec::new(alloc);
+    match edit {
+        Edit::Retarget(targets, _) => {
+            for (_, environment) in targets.as_slice() {
+                environments.push(environment)?;
+            }
+        }
+        _ => {
+            for target in state.targets() {
+                environments.push(&target.environment)?;
+            }
+        }
+    }
+    Ok(environments)
 }
 
 /// Puts the names of the lines behind the text that count in one of the environments, and of which the index has no release.
@@ -265,6 +287,7 @@ pub fn add_question(text: &mut String, options: &str, edit: &Edit) -> Result<(),
         Edit::UpgradeAll => text.push_str(" --upgrade")?,
         Edit::Relock => {}
         Edit::Replace(_, _) => text.push_str(" --replace")?,
+        Edit::Retarget(_, _) => text.push_str(" --retarget")?,
     }
     text.push_str("\n")
 }

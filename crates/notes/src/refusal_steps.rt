@@ -1,7 +1,7 @@
 // What a person may type next where an edit is refused.
 
 use crate::bad_text_steps::add_bad_text_steps;
-use crate::refusal_details::RefusedEdit;
+use crate::refusal_details::{RefusedEdit, environments_after};
 use edits::{Cause, Edit, Environment, Line, Name, Refusal, Requirement, Snapshot};
 use phrases::{add_specifiers, add_word};
 use std::alloc::{AllocError, Global};
@@ -51,10 +51,7 @@ fn add_lines_steps(
     refused: RefusedEdit<'_>,
 ) -> Result<(), AllocError> {
     let changed = changed_lines(alloc, refused)?;
-    let mut environments = Vec::new(alloc);
-    for target in refused.state.targets() {
-        environments.push(&target.environment)?;
-    }
+    let environments = environments_after(alloc, refused.state, refused.edit)?;
     let environments = environments.as_slice();
     let (changed, lines) = (changed.as_slice(), refused.state.lines().lines());
     add_newest_releases(text, changed, environments, refused.snapshot)?;
@@ -195,7 +192,8 @@ fn changed_lines(alloc: Global, refused: RefusedEdit<'_>) -> Result<Vec<Line>, A
         | Edit::Upgrade(_)
         | Edit::UpgradeAll
         | Edit::Relock
-        | Edit::Replace(_, _) => None,
+        | Edit::Replace(_, _)
+        | Edit::Retarget(_, _) => None,
     };
     if let Some(line) = found {
         lines.push(line)?;

@@ -3,12 +3,12 @@
 use calls::subcommand_files::{
     environments_of, has_old_lines, index_of, lines_of, locked, named_in, refuse_no_folder,
 };
-use calls::{Call, first_paths};
+use calls::{Call, NewTargetPaths, first_paths, new_target_paths};
 use clap::error::ErrorKind;
 use command_line::command;
 use command_line::request::{
-    Beginning, ColorChoice, Format, Inputs, Invocation, RequestFault, Saving, Subcommand,
-    Verbosity, request,
+    Beginning, ColorChoice, EditInputs, Format, Inputs, Invocation, RequestFault, Saving,
+    Subcommand, Verbosity, request,
 };
 use commands::batch::StreamFault;
 use details::{CallFiles, Details};
@@ -19,8 +19,8 @@ use phrases::Style;
 use reports::report::{Status, report, report_fault};
 use saves::{
     add_near_names, begin_history, edit_once, forget_once, rehearse_edit, rehearse_forget,
-    rehearse_init, rehearse_replace, rehearse_step, replace_once, run_batch, step_once,
-    try_commands,
+    rehearse_init, rehearse_replace, rehearse_retarget, rehearse_step, replace_once, retarget_once,
+    run_batch, step_once, try_commands,
 };
 use shell::given_words::has_option;
 use shell::screen::{Screen, shown_stop};
@@ -230,6 +230,10 @@ where
         Subcommand::Replace(replacement, inputs, Saving::DryRun) => {
             rehearse_replace(call, details, &replacement, inputs, input)
         }
+        Subcommand::Retarget(given, inputs, saving) => {
+            let paths = new_target_paths(call.rt.alloc(), &given, targets)?;
+            retarget(call, details, paths, inputs, saving, input)
+        }
         Subcommand::Undo(saving) => step(call, details, &Command::Undo, saving),
         Subcommand::Redo(saving) => step(call, details, &Command::Redo, saving),
         Subcommand::Forget(beginning, saving) => forget(call, details, beginning, saving),
@@ -294,6 +298,24 @@ where
     match saving {
         Saving::Save => begin_history(call, details, paths, input),
         Saving::DryRun => rehearse_init(call, details, paths, input),
+    }
+}
+
+/// Other targets, saved or not.
+fn retarget<R: Files + AllocGlobal, I: Read + Drop, O: Write>(
+    call: &mut Call<'_, R, O>,
+    details: &mut Details,
+    paths: NewTargetPaths,
+    inputs: EditInputs<'_>,
+    saving: Saving,
+    input: I,
+) -> Result<(), Stop>
+where
+    R::File: LockFile,
+{
+    match saving {
+        Saving::Save => retarget_once(call, details, paths, inputs, input),
+        Saving::DryRun => rehearse_retarget(call, details, paths, inputs, input),
     }
 }
 

@@ -1,6 +1,7 @@
 // What `batch` and `try` do.
 
 use crate::init::begin;
+use crate::standing_lock::refuse_standing;
 use calls::{Call, pool_of};
 use command_line::request::EditInputs;
 use commands::batch::batch_to_its_end;
@@ -9,6 +10,7 @@ use details::Details;
 use edits::Pool;
 use files::first_inputs::FirstPaths;
 use files::saved_history::{SavedHistory, history_to_save};
+use files::standing_lock::target_names;
 use inputs::LockFile;
 use inputs::target_files::TargetPath;
 use journal::Session;
@@ -37,6 +39,7 @@ where
         snapshot,
     } = history_to_save(rt, dir, inputs.index)?;
     let pool = pool_of(&snapshot, inputs);
+    let before = target_names(rt.alloc(), &session)?;
     let output = &mut call.output;
     let end = done_to_the_end(
         rt.alloc(),
@@ -47,7 +50,11 @@ where
         is_all_or_none,
     )?;
     match end {
-        BatchEnd::Save => Ok(files.rewrite(rt, dir, &session)?),
+        BatchEnd::Save => {
+            let before = before.as_slice();
+            refuse_standing(rt, dir, details, before, &session, false)?;
+            Ok(files.rewrite(rt, dir, &session)?)
+        }
         BatchEnd::Leave => Ok(()),
         BatchEnd::Refuse(line) => {
             let RefusedLine { number, refusal } = line;

@@ -1,12 +1,14 @@
 // What `--dry-run` prints: an edit, `undo` or `redo` as it would be, of which nothing is saved.
 
-use crate::edit::{applied, changed_from};
+use crate::edit::{applied, changed_from, takes_pins};
+use crate::standing_lock::refuse_standing;
 use calls::{Call, difference_between, pool_of};
 use command_line::request::EditInputs;
 use commands::ReplyText;
 use details::{Changed, Details, Place};
 use edits::Edit;
 use files::saved_history::{saved_session, session_over};
+use files::standing_lock::target_names;
 use inputs::LockFile;
 use journal::{Command, Session};
 use reports::print;
@@ -44,7 +46,7 @@ where
     rehearse(call, details, session, command, false)
 }
 
-pub(crate) fn rehearse<R: AllocGlobal, O: Write>(
+pub(crate) fn rehearse<R: Files + AllocGlobal, O: Write>(
     call: &mut Call<'_, R, O>,
     details: &mut Details,
     mut session: Session,
@@ -53,9 +55,19 @@ pub(crate) fn rehearse<R: AllocGlobal, O: Write>(
 ) -> Result<(), Stop> {
     let alloc = call.rt.alloc();
     let from = Place::of(&session);
+    let before = target_names(alloc, &session)?;
     let mut text = ReplyText::new(alloc)?;
     let reply = applied(alloc, details, &mut session, command, only_if_needed)?;
     text.set(&reply);
+    let (rt, dir) = (call.rt, call.dir);
+    refuse_standing(
+        rt,
+        dir,
+        details,
+        before.as_slice(),
+        &session,
+        takes_pins(command),
+    )?;
     let from = changed_from(&reply, from, &session);
     let change = difference_between(alloc, &session, from.cursor, session.cursor())?;
     let changed = Changed {

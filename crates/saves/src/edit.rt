@@ -4,6 +4,7 @@ ghost use Rattle.std.specs.Prelude.{IfErr, IfOk};
 ghost use Rattle.journal.specs.Commands.{asked_of};
 ghost use Rattle.saves.specs.Applied.{GoesOn, StopsAt};
 
+use crate::standing_lock::refuse_standing;
 use calls::{Call, difference_between, pool_of};
 use command_line::request::EditInputs;
 use commands::{ReplyText, apply_command, is_accepted};
@@ -11,6 +12,7 @@ use details::{Changed, Details, Place};
 use edits::Edit;
 use files::SavedFiles;
 use files::saved_history::{SavedHistory, history_to_save};
+use files::standing_lock::target_names;
 use inputs::LockFile;
 use journal::{Command, Reply, Session};
 use reports::print;
@@ -75,6 +77,7 @@ where
 {
     let alloc = call.rt.alloc();
     let from = Place::of(&session);
+    let before = target_names(alloc, &session)?;
     let mut text = ReplyText::new(alloc)?;
     let reply = applied(alloc, details, &mut session, command, only_if_needed)?;
     text.set(&reply);
@@ -86,9 +89,23 @@ where
         command,
     )?;
     if is_accepted(&reply) {
+        let (rt, dir) = (call.rt, call.dir);
+        refuse_standing(
+            rt,
+            dir,
+            details,
+            before.as_slice(),
+            &session,
+            takes_pins(command),
+        )?;
         files.rewrite(call.rt, call.dir, &session)?;
     }
     Ok(print(&mut call.output, text.as_bytes())?)
+}
+
+/// Whether pins may be handed in to a command.
+pub(crate) fn takes_pins(command: &Command<'_>) -> bool {
+    matches!(command, Command::Edit(_, _))
 }
 
 /// From where on a command changed the history. Where nothing is to be saved, nothing changed.

@@ -1,13 +1,10 @@
 // What `replace` does, and what it would do.
 
-use crate::dry_run::rehearse;
-use crate::edit::apply;
-use calls::{Call, ReplacedHistory, pool_of, replaced, replaced_to_save};
+use crate::read_edit::{make, rehearse_read};
+use calls::{Call, replaced, replaced_to_save};
 use command_line::request::{EditInputs, Replacement};
 use details::Details;
-use files::saved_history::SavedHistory;
 use inputs::LockFile;
-use journal::Command;
 use std::io::{Read, Write};
 use std::rt::Files;
 use stops::Stop;
@@ -24,27 +21,8 @@ pub fn replace_once<R: Files + AllocGlobal, I: Read + Drop, O: Write>(
 where
     R::File: LockFile,
 {
-    let ReplacedHistory { history, edit } = replaced_to_save(
-        call.rt,
-        call.dir,
-        replacement,
-        inputs,
-        input,
-    )?;
-    let SavedHistory {
-        files,
-        session,
-        snapshot,
-    } = history;
-    let command = Command::Edit(edit, pool_of(&snapshot, inputs));
-    apply(
-        call,
-        details,
-        &files,
-        session,
-        &command,
-        inputs.only_if_needed,
-    )
+    let read = replaced_to_save(call.rt, call.dir, replacement, inputs, input)?;
+    make(call, details, read, inputs)
 }
 
 /// Prints the reply and what would change. Nothing is saved.
@@ -58,18 +36,6 @@ pub fn rehearse_replace<R: Files + AllocGlobal, I: Read + Drop, O: Write>(
 where
     R::File: LockFile,
 {
-    let ReplacedHistory { history, edit } = replaced(
-        call.rt,
-        call.dir,
-        replacement,
-        inputs,
-        input,
-    )?;
-    let SavedHistory {
-        files: _,
-        session,
-        snapshot,
-    } = history;
-    let command = Command::Edit(edit, pool_of(&snapshot, inputs));
-    rehearse(call, details, session, &command, inputs.only_if_needed)
+    let read = replaced(call.rt, call.dir, replacement, inputs, input)?;
+    rehearse_read(call, details, read, inputs)
 }

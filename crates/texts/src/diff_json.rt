@@ -2,8 +2,9 @@
 
 use crate::entry_json::entry_value;
 use crate::json_text::{json_text, put_other_lines, text_value};
-use edits::{Change, DigestChange, Entry, EntryChange, Splice};
+use edits::{Change, DigestChange, Entry, EntryChange, Environment, Splice, TargetChange};
 use lists::Text;
+use pep508::VARIABLES;
 use serde_json::{Map, Value, put};
 use std::alloc::{AllocError, Global};
 
@@ -21,7 +22,7 @@ pub fn diff_json(
     json_text(alloc, &Value::Object(members))
 }
 
-/// What a change takes out and puts in: lines, entries, and the digest of the index.
+/// What a change takes out and puts in: lines, targets where it changes some, entries, and the digest of the index.
 pub fn diff_value(alloc: Global, change: &Change) -> Result<Value, AllocError> {
     Ok(Value::Object(diff_members(alloc, change)?))
 }
@@ -34,6 +35,10 @@ pub(crate) fn diff_members(
     let mut members = Map::new(alloc);
     let lines = splices_value(alloc, change.splices())?;
     put(&mut members, alloc, "lines", lines)?;
+    if !change.targets().is_empty() {
+        let targets = targets_value(alloc, change.targets())?;
+        put(&mut members, alloc, "targets", targets)?;
+    }
     let entries = entries_value(alloc, change.entries())?;
     put(&mut members, alloc, "entries", entries)?;
     let index = match change.digests() {
@@ -70,6 +75,41 @@ fn texts_value(alloc: Global, texts: &[Text]) -> Result<Value, AllocError> {
         values.push(text_value(alloc, text.as_str())?)?;
     }
     Ok(Value::Array(values))
+}
+
+fn targets_value(alloc: Global, changes: &[TargetChange]) -> Result<Value, AllocError> {
+    let mut values = Vec::with_capacity(alloc, changes.len())?;
+    for change in changes {
+        values.push(target_change_value(alloc, change)?)?;
+    }
+    Ok(Value::Array(values))
+}
+
+fn target_change_value(alloc: Global, change: &TargetChange) -> Result<Value, AllocError> {
+    let mut members = Map::new(alloc);
+    let target = text_value(alloc, change.name.as_str())?;
+    put(&mut members, alloc, "target", target)?;
+    let old = environment_or_null(alloc, &change.old)?;
+    put(&mut members, alloc, "old", old)?;
+    let new = environment_or_null(alloc, &change.new)?;
+    put(&mut members, alloc, "new", new)?;
+    Ok(Value::Object(members))
+}
+
+/// The text of each variable.
+fn environment_or_null(
+    alloc: Global,
+    environment: &Option<Environment>,
+) -> Result<Value, AllocError> {
+    let Some(environment) = environment else {
+        return Ok(Value::Null);
+    };
+    let mut members = Map::new(alloc);
+    for variable in VARIABLES.as_slice() {
+        let text = text_value(alloc, environment.text(*variable))?;
+        put(&mut members, alloc, variable.name(), text)?;
+    }
+    Ok(Value::Object(members))
 }
 
 fn entries_value(alloc: Global, changes: &[EntryChange]) -> Result<Value, AllocError> {

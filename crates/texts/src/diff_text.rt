@@ -1,18 +1,24 @@
 // What a change did, for people.
 
 use crate::entry_fields::add_other_fields;
+use crate::target_text::{add_entry_count, has_same_target, sign_of_whole, target_lines};
 use edits::{Change, DigestChange, Entry, EntryChange, Splice, Target};
 use lists::Text;
 use phrases::{add_plain, add_target_line};
 use std::alloc::{AllocError, Global};
 
 /// The lines of the requirements file that a change takes out, with `-` and their numbers before it, and those
-/// that it puts in, with `+` and their numbers behind it. Then a line for each entry, those of a named target
-/// below its name, and the digests of the index, where it is another.
+/// that it puts in, with `+` and their numbers behind it. Then what became of targets, a line for each entry, those of
+/// a named target below its name, and the digests of the index, where it is another. The entries of a target that comes or
+/// goes are counted.
 pub fn diff_text(alloc: Global, change: &Change) -> Result<String, AllocError> {
     let mut text = String::new(alloc);
     add_splices(&mut text, change.splices())?;
-    add_entries(&mut text, change.entries())?;
+    for line in target_lines(alloc, change.targets())? {
+        text.push_str(line.as_str())?;
+        text.push_str("\n")?;
+    }
+    add_entries(&mut text, change)?;
     if let Some(digests) = change.digests() {
         add_digests(alloc, &mut text, digests)?;
     }
@@ -80,25 +86,24 @@ fn add_content(text: &mut String, line: &str) -> Result<(), AllocError> {
     text.push_str("\n")
 }
 
-fn add_entries(text: &mut String, changes: &[EntryChange]) -> Result<(), AllocError> {
+fn add_entries(text: &mut String, change: &Change) -> Result<(), AllocError> {
     let mut last = None;
-    for change in changes {
-        if !has_same_target(last, change) {
-            add_target_line(text, change.target.as_str())?;
+    for entry in change.entries() {
+        let is_first = !has_same_target(last, entry);
+        if is_first {
+            add_target_line(text, entry.target.as_str())?;
         }
-        add_entry_change(text, change)?;
-        text.push_str("\n")?;
-        last = Some(change);
+        match sign_of_whole(change.targets(), &entry.target) {
+            None => {
+                add_entry_change(text, entry)?;
+                text.push_str("\n")?;
+            }
+            Some(sign) if is_first => add_entry_count(text, sign, change, &entry.target)?,
+            Some(_) => {}
+        }
+        last = Some(entry);
     }
     Ok(())
-}
-
-/// Whether the last change is one of the same target.
-fn has_same_target(last: Option<&EntryChange>, change: &EntryChange) -> bool {
-    match last {
-        Some(last) => last.target.as_str() == change.target.as_str(),
-        None => false,
-    }
 }
 
 /// What became of an entry. Of one that keeps its version it is told which fields are others.

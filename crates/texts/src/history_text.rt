@@ -4,7 +4,8 @@ use crate::diff_text::add_entry_change;
 use crate::line_edit::{LineEdit, line_edit};
 use crate::new_lock_text::add_new_lock;
 use crate::shown::ShownSteps;
-use edits::{Cause, Change, EntryChange, Line, Splice, TargetName};
+use crate::target_text::{add_entry_count, has_same_target, sign_of_whole, target_lines};
+use edits::{Cause, Change, Line, Splice, TargetName};
 use lists::Text;
 use phrases::{add_plain, add_specifiers};
 use std::alloc::{AllocError, Global};
@@ -30,20 +31,46 @@ pub fn history_text(
         add_cut(&mut text, line.as_str())?;
         text.push_str("\n")?;
         if long {
-            add_entries(&mut text, change.entries())?;
+            add_targets(alloc, &mut text, change)?;
+            add_entries(&mut text, change)?;
         }
     }
     Ok(text)
 }
 
-fn add_entries(text: &mut String, changes: &[EntryChange]) -> Result<(), AllocError> {
-    for change in changes {
-        text.push_str("      ")?;
-        add_target(text, &change.target)?;
-        add_entry_change(text, change)?;
-        text.push_str("\n")?;
+/// A line for what became of each target.
+fn add_targets(alloc: Global, text: &mut String, change: &Change) -> Result<(), AllocError> {
+    for line in target_lines(alloc, change.targets())? {
+        let line = line.as_str();
+        write!(text, "      {line}\n")?;
     }
     Ok(())
+}
+
+/// A line for each entry. Those of a target that comes or goes are counted.
+fn add_entries(text: &mut String, change: &Change) -> Result<(), AllocError> {
+    let mut last = None;
+    for entry in change.entries() {
+        match sign_of_whole(change.targets(), &entry.target) {
+            None => {
+                add_indented(text, &entry.target)?;
+                add_entry_change(text, entry)?;
+                text.push_str("\n")?;
+            }
+            Some(sign) if !has_same_target(last, entry) => {
+                add_indented(text, &entry.target)?;
+                add_entry_count(text, sign, change, &entry.target)?;
+            }
+            Some(_) => {}
+        }
+        last = Some(entry);
+    }
+    Ok(())
+}
+
+fn add_indented(text: &mut String, target: &TargetName) -> Result<(), AllocError> {
+    text.push_str("      ")?;
+    add_target(text, target)
 }
 
 /// The name of a named target.
@@ -78,12 +105,25 @@ pub(crate) fn step_text(alloc: Global, change: &Change) -> Result<String, AllocE
     Ok(text)
 }
 
-/// What a step did: an edit of one line, or a new lock.
+/// What a step did: an edit of one line, other targets, or a new lock.
 fn add_step(alloc: Global, text: &mut String, change: &Change) -> Result<(), AllocError> {
     match change.splices().first() {
         Some(splice) => add_edit(alloc, text, splice),
+        None if !change.targets().is_empty() => add_retarget(alloc, text, change),
         None => add_new_lock(alloc, text, change),
     }
+}
+
+/// What became of targets.
+fn add_retarget(alloc: Global, text: &mut String, change: &Change) -> Result<(), AllocError> {
+    text.push_str("retarget: ")?;
+    for (position, line) in target_lines(alloc, change.targets())?.iter().enumerate() {
+        if position > 0 {
+            text.push_str(", ")?;
+        }
+        text.push_str(line.as_str())?;
+    }
+    Ok(())
 }
 
 /// The line that came behind others, the one that went, the one with other specifiers, or how many were replaced.

@@ -19,4 +19,5 @@ pub mod outdated_text;
 mod required_by;
 mod requirer_text;
 pub mod shown;
+mod target_text;
 pub mod tree_text;

@@ -2,14 +2,14 @@
 
 ghost use Rattle.std.specs.Prelude.{◌≤◌, length};
 
-use crate::net_entries::joined_entries;
 use crate::net_lines::{Gap, gaps_behind, splices_of};
+use crate::net_parts::joined_parts;
 use edits::{Change, DigestChange};
 use lists::Seq;
 use std::alloc::{AllocError, Global};
 
 /// The change from one place of a history to another, whose steps have these changes; none where they don't follow one
-/// another. That of one step is the step's own. Of several the lines and entries are told that are others behind them.
+/// another. That of one step is the step's own. Of several the lines, targets and entries are told that are others behind them.
 pub(crate) fn change_of_steps(
     alloc: Global,
     changes: &[Change],
@@ -34,19 +34,25 @@ fn way_on(alloc: Global, steps: &[Change]) -> Result<Option<Change>, AllocError>
         return Ok(Some(step.clone()?));
     }
     let mut gaps: Vec<Gap<'_>> = Vec::new(alloc);
+    let mut targets = Vec::new(alloc);
     let mut entries = Vec::new(alloc);
     for step in steps {
         let Some(lines) = gaps_behind(alloc, gaps, step.splices())? else {
             return Ok(None);
         };
-        let Some(others) = joined_entries(alloc, entries, step.entries())? else {
+        let Some(others) = joined_parts(alloc, targets, step.targets())? else {
+            return Ok(None);
+        };
+        let Some(locked) = joined_parts(alloc, entries, step.entries())? else {
             return Ok(None);
         };
         gaps = lines;
-        entries = others;
+        targets = others;
+        entries = locked;
     }
     let splices = splices_of(alloc, gaps.as_slice())?;
-    Ok(Change::new(splices, Seq::from_vec(entries), digests_of(steps)))
+    let (targets, entries) = (Seq::from_vec(targets), Seq::from_vec(entries));
+    Ok(Change::new(splices, targets, entries, digests_of(steps)))
 }
 
 /// What became of the digest of the index.

@@ -1,10 +1,10 @@
 // What `why` answers.
 
 use crate::waiting::Telling;
-use crate::why::{print_why, print_why_init, print_why_replace};
+use crate::why::{print_why, print_why_init, print_why_replace, print_why_retarget};
 use crate::why_not::print_why_not;
 use answers::Watch;
-use calls::{Call, first_paths};
+use calls::{Call, first_paths, new_target_paths};
 use command_line::request::Question;
 use inputs::LockFile;
 use inputs::target_files::TargetPath;
@@ -13,7 +13,7 @@ use std::io::{Read, Write};
 use std::rt::Files;
 use stops::Stop;
 
-/// Answers a question, of which these are the targets where it is about a first lock. A question about a release is
+/// Answers a question, of which these are the targets where it is about a first lock or about other targets. A question about a release is
 /// always answered in sentences.
 pub fn answer_why<R: Files + AllocGlobal, I: Read + Drop, O: Write, W: Watch + Drop>(
     call: &mut Call<'_, R, O>,
@@ -30,6 +30,10 @@ where
         Question::Edit(edit, inputs) => print_why(call, lacks, &edit, inputs, telling),
         Question::Replace(replacement, inputs) => {
             print_why_replace(call, lacks, &replacement, inputs, telling, input)
+        }
+        Question::Retarget(given, inputs) => {
+            let paths = new_target_paths(call.rt.alloc(), &given, targets)?;
+            print_why_retarget(call, lacks, paths, inputs, telling, input)
         }
         Question::Init(inputs, line) => {
             let paths = first_paths(call.rt.alloc(), &inputs, targets)?;

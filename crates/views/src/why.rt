@@ -6,7 +6,7 @@ ghost use Rattle.answers.specs.Answers.{IsSolvable};
 
 use crate::waiting::Telling;
 use answers::{Shown, Watch, changed_by, explained_text, first_refuted, lines_of, listed_text};
-use calls::{Call, ReplacedHistory, pool_of, replaced};
+use calls::{Call, NewTargetPaths, ReadEdit, pool_of, replaced, retargeted};
 use command_line::request::{EditInputs, Replacement, Told};
 use edits::{Edit, Problem, TargetName, problem_after, problems_of_init};
 use explain::{ChangedLines, Extent, Wording};
@@ -58,14 +58,36 @@ pub(crate) fn print_why_replace<R: Files + AllocGlobal, I: Read + Drop, O: Write
 where
     R::File: LockFile,
 {
+    let read = replaced(call.rt, call.dir, replacement, inputs, input)?;
+    print_why_read(call, lacks, read, inputs, telling)
+}
+
+/// The same of other targets in the place of the present ones.
+pub(crate) fn print_why_retarget<R: Files + AllocGlobal, I: Read + Drop, O: Write, W: Watch + Drop>(
+    call: &mut Call<'_, R, O>,
+    lacks: &mut Lacks,
+    paths: NewTargetPaths,
+    inputs: EditInputs<'_>,
+    telling: Telling<W>,
+    input: I,
+) -> Result<(), Stop>
+where
+    R::File: LockFile,
+{
+    let read = retargeted(call.rt, call.dir, paths, inputs, input)?;
+    print_why_read(call, lacks, read, inputs, telling)
+}
+
+/// The same of an edit that files were read for.
+fn print_why_read<R: AllocGlobal, O: Write, W: Watch + Drop>(
+    call: &mut Call<'_, R, O>,
+    lacks: &mut Lacks,
+    read: ReadEdit,
+    inputs: EditInputs<'_>,
+    telling: Telling<W>,
+) -> Result<(), Stop> {
     let alloc = call.rt.alloc();
-    let ReplacedHistory { history, edit } = replaced(
-        call.rt,
-        call.dir,
-        replacement,
-        inputs,
-        input,
-    )?;
+    let ReadEdit { history, edit } = read;
     let pool = pool_of(&history.snapshot, inputs);
     let problems = problem_after(alloc, history.session.state(), &edit, &pool)?;
     let changed = ChangedLines {
