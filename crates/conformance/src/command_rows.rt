@@ -5,8 +5,8 @@ use crate::growing_text::GrowingText;
 use crate::notation::owned;
 use command_line::request::{
     Beginning, ColorChoice, DiffRange, EditInputs, Export, ExportFormat, Format, Inputs,
-    Invocation, NeededOption, NewLines, Question, Replacement, RequestFault, Saving, Shown,
-    Subcommand, Told, Verbosity, request,
+    Invocation, NeededOption, NewLines, NewTargets, Question, Replacement, RequestFault, Saving,
+    Shown, Subcommand, Told, Verbosity, request,
 };
 use commands::{Item, read_item};
 use edits::Edit;
@@ -28,6 +28,7 @@ fn push_edit(text: &mut GrowingText, edit: &Edit) {
         Edit::UpgradeAll => text.push_str("(upgrade)"),
         Edit::Relock => text.push_str("(relock)"),
         Edit::Replace(_, _) => text.push_str("(replace)"),
+        Edit::Retarget(_, _) => text.push_str("(retarget)"),
     }
 }
 
@@ -69,6 +70,15 @@ fn push_replacement(text: &mut GrowingText, replacement: &Replacement<'_>) {
         NewLines::Line(name, line) => write!(text, "(replace) line|{name}|{line}"),
     }
     push_pins(text, replacement.pins.as_slice());
+}
+
+/// Pushes targets that take the place of others.
+fn push_new_targets(text: &mut GrowingText, targets: &NewTargets) {
+    text.push_str("(retarget)");
+    for environment in targets.environments.as_slice() {
+        write!(text, " {environment}");
+    }
+    push_pins(text, targets.pins.as_slice());
 }
 
 /// Pushes how a result is printed.
@@ -135,6 +145,10 @@ fn push_question(text: &mut GrowingText, question: &Question<'_>) {
             push_replacement(text, replacement);
             push_edit_inputs(text, *inputs);
         }
+        Question::Retarget(targets, inputs) => {
+            push_new_targets(text, targets);
+            push_edit_inputs(text, *inputs);
+        }
         Question::Init(inputs, line) => {
             push_inputs(text, "init", inputs);
             if let Some(line) = line {
@@ -159,6 +173,11 @@ fn push_subcommand(text: &mut GrowingText, subcommand: Subcommand<'_>) {
         }
         Subcommand::Replace(replacement, inputs, saving) => {
             push_replacement(text, &replacement);
+            push_edit_inputs(text, inputs);
+            push_saving(text, saving);
+        }
+        Subcommand::Retarget(targets, inputs, saving) => {
+            push_new_targets(text, &targets);
             push_edit_inputs(text, inputs);
             push_saving(text, saving);
         }
@@ -245,6 +264,7 @@ fn push_view(text: &mut GrowingText, view: Subcommand<'_>) {
         Subcommand::Init(_, _)
         | Subcommand::Edit(_, _, _)
         | Subcommand::Replace(_, _, _)
+        | Subcommand::Retarget(_, _, _)
         | Subcommand::Undo(_)
         | Subcommand::Redo(_)
         | Subcommand::Forget(_, _)
