@@ -5,7 +5,7 @@ complete -c reqlock-fleet -f
 complete -c reqlock-fleet -a '(__fish_complete_directories)'
 complete -c reqlock-fleet -s h -l help -d 'show this help message and exit'
 complete -c reqlock-fleet -l index -r -F -d 'the snapshot of the index; else the value of REQLOCK_INDEX'
-complete -c reqlock-fleet -l env -r -F -d 'an environment, for init'
+complete -c reqlock-fleet -l env -r -F -d 'an environment, for init and retarget'
 complete -c reqlock-fleet -l jobs -x -d 'calls at once; else one for each processor, or thread of a worker'
 complete -c reqlock-fleet -l explain -d 'ask why of each folder without a solution'
 complete -c reqlock-fleet -l json -d 'print JSON, as docs/JSON.md tells it'

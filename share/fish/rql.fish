@@ -8,7 +8,7 @@ function __rql_command
     set -l command
     while set -q words[1]
         switch $words[1]
-            case -C --timeout --retries --program --index --python --platform --from --venv --target --keep
+            case -C --timeout --retries --program --index --python --platform --from --pins --venv --target --keep
                 set words $words[3..-1]
             case '-*'
                 set words $words[2..-1]
@@ -49,11 +49,12 @@ complete -c rql -n __rql_before -a set -d 'put texts in the place of the lines o
 complete -c rql -n __rql_before -a upgrade -d 'lock again without the locked versions of these names'
 complete -c rql -n __rql_before -a constrain -d 'put other specifiers in the line of a name'
 complete -c rql -n __rql_before -a relock -d 'lock again over a fresh index; versions stay where they can'
+complete -c rql -n __rql_before -a retarget -d 'lock for the environments as the settings have them, whoever changed these'
 complete -c rql -n __rql_before -a lock -d 'have the lock fit the lines again, whoever changed them'
 complete -c rql -n __rql_before -a sync -d 'have a virtual environment hold exactly what is locked'
 complete -c rql -n __rql_before -a check -d 'tell whether settings, lines and locks belong together'
 complete -c rql -n __rql_before -a index -d 'make the index anew, with these names too'
-complete -c rql -n __rql_before -a env -d 'add, remove, lock or list the environments that are locked for'
+complete -c rql -n __rql_before -a env -d 'add, set, remove or list the environments that are locked for'
 complete -c rql -n __rql_before -a undo -d 'go back to the state before the last edit'
 complete -c rql -n __rql_before -a redo -d 'go on to the state that an undo left'
 complete -c rql -n __rql_before -a forget -d 'take the first steps out of the history; the present state stays'
@@ -69,8 +70,8 @@ complete -c rql -n __rql_before -a fleet -d 'ask the same of many folders'
 complete -c rql -n __rql_before -a merge -d 'lock what git merged, and keep the pins of both sides'
 complete -c rql -n __rql_before -a check-refutation -d 'check a proof that nothing can be locked'
 complete -c rql -n '__rql_in env' -a add -d 'lock for one environment more'
+complete -c rql -n '__rql_in env' -a set -d 'lock for another Python, or another platform, in the place of one'
 complete -c rql -n '__rql_in env' -a remove -d 'lock for one environment less'
-complete -c rql -n '__rql_in env' -a lock -d 'lock for the environments as the settings have them, whoever changed these'
 complete -c rql -n '__rql_in env' -a list -d 'print the environments'
 complete -c rql -n '__rql_in remove set upgrade constrain' -a '(__rql_line_names)'
 complete -c rql -n '__rql_in undo redo forget show tree outdated why log diff export skipped fleet merge check-refutation' -F
@@ -87,8 +88,9 @@ complete -c rql -n '__rql_in init' -l index -x -d 'an index, in order; else pip\
 complete -c rql -n '__rql_in init' -l python -x -d 'the version of Python, as 3.11; this one where none is given'
 complete -c rql -n '__rql_in init' -l platform -x -d 'a platform, as linux-x86_64; this one else'
 complete -c rql -n '__rql_in init' -l from -r -F -d 'a lock whose pins are kept'
-complete -c rql -n '__rql_in add remove set upgrade constrain relock' -l keep-locked -d 'move no locked version that is still needed'
-complete -c rql -n '__rql_in add remove set upgrade constrain relock' -l dry-run -d 'save nothing; print what would change'
+complete -c rql -n '__rql_in add remove set upgrade constrain relock retarget env/add env/set env/remove' -l keep-locked -d 'move no locked version that is still needed'
+complete -c rql -n '__rql_in add remove set upgrade constrain relock retarget env/add env/set env/remove' -l dry-run -d 'save nothing; print what would change'
+complete -c rql -n '__rql_in retarget env/add env/set env/remove' -l pins -r -F -d 'a lock, or lines, whose versions a new target begins with; or NAME=FILE'
 complete -c rql -n '__rql_in lock' -l check -d 'change nothing; the status is 1 where it would'
 complete -c rql -n '__rql_in sync' -l venv -x -a '(__fish_complete_directories)' -d 'the environment; else VIRTUAL_ENV, else .venv'
 complete -c rql -n '__rql_in sync' -l target -x -d 'the target, where several fit'
@@ -99,4 +101,5 @@ complete -c rql -n '__rql_in check' -l current -d 'tell also whether a relock ov
 complete -c rql -n '__rql_in check' -l json -d 'print JSON'
 complete -c rql -n '__rql_in env/add' -l python -x -d 'the version of Python, as 3.11; else that of the first environment'
 complete -c rql -n '__rql_in env/add' -l platform -x -d 'the platform, as linux-x86_64; else the first whose name begins so'
-complete -c rql -n '__rql_in env/add env/remove env/lock' -l anew -d 'begin a new history, with the versions that are locked'
+complete -c rql -n '__rql_in env/set' -l python -x -d 'the version of Python, as 3.11; else it stays'
+complete -c rql -n '__rql_in env/set' -l platform -x -d 'the platform, as linux-x86_64; else it stays'

@@ -3,7 +3,7 @@
   fleet.py --index index.json services/* -- constrain urllib3 '>=2' --dry-run
 
 Behind -- stand the words of one subcommand: init, add, remove, constrain, upgrade, relock,
-undo, redo, forget or check. It is called in each folder. A table tells each folder's reply and
+retarget, undo, redo, forget or check. It is called in each folder. A table tells each folder's reply and
 what changed, or with --dry-run what would change; then come the counts. With --explain each
 folder without a solution is asked why, and those with the same reason are told together.
 
@@ -56,7 +56,7 @@ def parser_of() -> argparse.ArgumentParser:
     )
     parser.add_argument("folders", metavar="FOLDER", nargs="+", help="a folder with a requirements file and its history")
     parser.add_argument("--index", metavar="FILE", help="the snapshot of the index; else the value of REQLOCK_INDEX")
-    parser.add_argument("--env", metavar="[NAME=]FILE", action="append", default=[], help="an environment, for init")
+    parser.add_argument("--env", metavar="[NAME=]FILE", action="append", default=[], help="an environment, for init and retarget")
     parser.add_argument("--jobs", metavar="N", type=number, help="calls at once; else one for each processor, or thread of a worker")
     parser.add_argument("--explain", action="store_true", help="ask why of each folder without a solution")
     parser.add_argument("--json", action="store_true", help="print JSON, as docs/JSON.md tells it")

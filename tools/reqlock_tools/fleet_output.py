@@ -60,7 +60,7 @@ def row_json(row: Row, reasons: dict[str, int]) -> dict[str, Any]:
         "folder": row.folder, "kind": row.kind, "reply": row.reply or None, "status": row.status, "lines": row.lines,
         "entries": [entry._asdict() for entry in row.entries], "index": row.index, "told": row.told,
         "reason": reasons.get(row.folder),
-    }
+    } | ({"targets": row.targets} if row.targets else {})
 
 
 def report_json(rows: list[Row]) -> str:

@@ -12,7 +12,7 @@ from reqlock_tools.refusal import Refusal, Say
 # The subcommands that have one reply for a folder, each with the words of the `why` that asks about it.
 WHY: dict[str, list[str]] = {
     "init": ["--init"], "add": ["--"], "remove": ["--remove"], "constrain": ["--constrain"], "upgrade": ["--upgrade"], "relock": [],
-    "check": [], "undo": [], "redo": [], "forget": [],
+    "retarget": ["--retarget"], "check": [], "undo": [], "redo": [], "forget": [],
 }
 # The others, with what to do in their place.
 OTHERS = {
@@ -25,6 +25,8 @@ OTHERS = {
 } | {name: f"it has no reply: type reqlock --dir FOLDER {name} for each folder" for name in ("show", "log", "diff", "outdated", "export")}
 FLAGS = "--dry-run", "--keep-locked", "--if-needed", "--verbose", "-v", "--current"
 OWN = "--index", "--env", "--json"
+# The subcommands that lock for the environments that are given.
+TARGETING = "init", "retarget"
 # Those that a value stands behind.
 VALUED = "--before", "--keep"
 
@@ -192,12 +194,12 @@ def check_request(request: Request) -> None:
         status, _, errors = checked(tell([request.program, *request.options(folder), *request.words.of_call()]), request)
         if status == 2:
             raise Usage(errors.strip().removeprefix("error: ").removeprefix("reqlock: "))
-        begins = request.words.subcommand == "init"
-        if begins:
+        reads_environments = request.words.subcommand in TARGETING
+        if reads_environments:
             with open(os.path.join(folder, "requirements.txt"), "wb"):
                 pass
         if request.index:
-            subcommand = "try" if begins else "skipped"
+            subcommand = "try" if reads_environments else "skipped"
             status, _, errors = checked(tell([request.program, *request.options(folder), subcommand]), request)
             if status not in (0, 3):
                 raise Refusal(input_fault(errors, request))

@@ -20,6 +20,9 @@ LINE = re.compile(r"[-+] [0-9]+: .*|\\ no line ending")
 INDEX = re.compile(r"[-+] index: [0-9a-f]{64}")
 MOVED = re.compile(r"(\S+) (\S+) -> (\S+)(?: \([a-z-]+(?:, [a-z-]+)*\))?")
 CAME = re.compile(r"([-+]) (\S+) (\S+)")
+# What became of a target, and how many entries came or went with it.
+TARGET = re.compile(r"[-+] target(?: [a-z][a-z0-9-]*)?|target(?: [a-z][a-z0-9-]*)?: [a-z_]+ .* -> .*")
+COUNT = re.compile(r"[-+] [0-9]+ entr(?:y|ies)")
 MOST_SHOWN = 3
 # The status of words that are no request, or ask for a place that a history hasn't.
 NO_REQUEST = 2
@@ -53,16 +56,17 @@ class Row:
     index: bool = False
     told: str = ""
     reason: str = ""
+    targets: list[str] = field(default_factory=list)
 
     def shown_reply(self) -> str:
         return ABSENCES.get(self.reply, self.reply) if self.kind not in (BROKEN, WAITING) else KINDS[self.kind]
 
     def shown_change(self) -> str:
-        """What changed, in short: some entries, or else the number of lines; or what is known of a refusal."""
+        """What changed, in short: some targets and entries, or else the number of lines; or what is known of a refusal."""
         if self.told and self.kind in (REFUSED, BROKEN, WAITING):
             return self.told
-        entries = [entry.told() for entry in self.entries[:MOST_SHOWN]]
-        more = len(self.entries) - MOST_SHOWN
+        entries = [*self.targets, *(entry.told() for entry in self.entries)][:MOST_SHOWN]
+        more = len(self.targets) + len(self.entries) - MOST_SHOWN
         if more > 0:
             entries.append(f"{more} more")
         count = max(sum(line.startswith(sign) for line in self.lines) for sign in "+-")
@@ -70,9 +74,10 @@ class Row:
         return ", ".join(entries or lines or ["another index"] * self.index)
 
 
-def read_changes(text: str) -> tuple[list[str], list[Entry], bool, list[str]]:
-    """What the lines of a difference tell: lines of the file, entries, whether the index is another one; and the other lines."""
+def read_changes(text: str) -> tuple[list[str], list[Entry], bool, list[str], list[str]]:
+    """What the lines of a difference tell: lines of the file, entries, whether the index is another one; the other lines; and targets."""
     lines: list[str] = []
+    targets: list[str] = []
     entries: list[Entry] = []
     others: list[str] = []
     target, is_other = "", False
@@ -82,6 +87,10 @@ def read_changes(text: str) -> tuple[list[str], list[Entry], bool, list[str]]:
             lines.append(line)
         elif INDEX.fullmatch(line):
             is_other = True
+        elif TARGET.fullmatch(line):
+            targets.append(line)
+        elif COUNT.fullmatch(line):
+            continue
         elif came:
             versions = (None, came[3]) if came[1] == "+" else (came[3], None)
             entries.append(Entry(target, came[2], *versions))
@@ -91,7 +100,7 @@ def read_changes(text: str) -> tuple[list[str], list[Entry], bool, list[str]]:
             target = line.removeprefix("target ")
         elif line:
             others.append(line)
-    return lines, entries, is_other, others
+    return lines, entries, is_other, others, targets
 
 
 def kind_of(reply: str) -> str:
@@ -109,14 +118,14 @@ def row_of(task: Task, answer: Answer) -> Row:
         return Row(task.folder, REFUSED, "refused", status, told=call_fault(answer[:3]))
     if status not in (0, 1, 3) or not REPLY.fullmatch(reply):
         return broken_row(task, status, fault_text(task, answer))
-    lines, entries, is_other, others = read_changes(rest + errors)
+    lines, entries, is_other, others, targets = read_changes(rest + errors)
     told = "; ".join(others)
     reason = ""
     if why is not None:
         reason = reason_of(why)
         if not reason:
             return broken_row(task, why[0], f"{reply}, and why there is none wasn't told: {call_fault(why)}")
-    return Row(task.folder, kind_of(reply), reply, status, lines, entries, is_other, told, reason)
+    return Row(task.folder, kind_of(reply), reply, status, lines, entries, is_other, told, reason, targets)
 
 
 def broken_row(task: Task, status: int | None, told: str) -> Row:

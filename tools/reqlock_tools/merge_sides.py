@@ -62,10 +62,10 @@ def take_back(lines: list[bytes], splices: list[Any]) -> int:
 
 
 def read_journal(place: str, data: bytes) -> Journal:
-    """A journal of either version."""
+    """A journal of any version."""
     try:
         header = json.loads(data.partition(b"\n")[0])
-        targets = header["targets"] if header["journal"] == 2 else [header | {"name": ""}]
+        targets = header["targets"] if header["journal"] in (2, 3) else [header | {"name": ""}]
         locks = {target["name"]: target["lock"] for target in targets}
         environments = {target["name"]: target["environment"] for target in targets}
         is_read = all(TARGET.fullmatch(name) for name in locks) and isinstance(header["cursor"], int)

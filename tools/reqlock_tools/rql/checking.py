@@ -1,5 +1,6 @@
 """`rql check`: sources, settings and exports against lines, targets and locks first, then what the program checks."""
 
+from reqlock_tools.merge_sides import Journal
 from reqlock_tools.refusal import speaker
 from reqlock_tools.rql.calls import Caller, typed_path
 from reqlock_tools.rql.environments import are_alike, environments, label_of
@@ -9,6 +10,7 @@ from reqlock_tools.rql.history import content, journal_of
 from reqlock_tools.rql.kept import Kept
 from reqlock_tools.rql.project import REQUIREMENTS, Project
 from reqlock_tools.rql.requests import CheckRequest
+from reqlock_tools.rql.settings import Settings
 
 say = speaker("rql")
 
@@ -39,14 +41,18 @@ def checked(project: Project, request: CheckRequest, words: list[str]) -> int:
 def target_differences(project: Project) -> list[str]:
     """What the settings and the journal tell otherwise of environments."""
     journal = journal_of(project)
-    if journal is None or not project.settings.environments:
+    return differences_of(project.settings, journal) if journal is not None else []
+
+
+def differences_of(settings: Settings, journal: Journal) -> list[str]:
+    if not settings.environments:
         return []
-    wanted, locked = environments(project.settings), journal.environments
-    lines = [f"{named(name)} is in the settings, and isn't locked for: rql env lock" for name in wanted.keys() - locked.keys()]
-    lines += [f"{named(name)} is locked for, and isn't in the settings: rql env lock" for name in locked.keys() - wanted.keys()]
+    wanted, locked = environments(settings), journal.environments
+    lines = [f"{named(name)} is in the settings, and isn't locked for: rql retarget" for name in wanted.keys() - locked.keys()]
+    lines += [f"{named(name)} is locked for, and isn't in the settings: rql retarget" for name in locked.keys() - wanted.keys()]
     for name in sorted(wanted.keys() & locked.keys()):
         if not are_alike(wanted[name], locked[name]):
-            lines.append(f"{named(name)} is {label_of(wanted[name])} in the settings, and {label_of(locked[name])} is locked for: rql env lock")
+            lines.append(f"{named(name)} is {label_of(wanted[name])} in the settings, and {label_of(locked[name])} is locked for: rql retarget")
     return sorted(lines)
 
 

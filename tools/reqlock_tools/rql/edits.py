@@ -5,10 +5,11 @@ import shutil
 import sys
 import tempfile
 from collections.abc import Sequence
+from contextlib import suppress
 from dataclasses import replace
 from pathlib import Path
 
-from reqlock_tools.refusal import speaker
+from reqlock_tools.refusal import Refusal, speaker
 from reqlock_tools.rql.calls import Caller, typed_path
 from reqlock_tools.rql.exports import write_exports
 from reqlock_tools.rql.history import Saving, tell_changed
@@ -18,7 +19,7 @@ from reqlock_tools.rql.lacking import lacking, names_of, tell_lacking
 from reqlock_tools.rql.own_calls import front
 from reqlock_tools.rql.project import JOURNAL, REQUIREMENTS, Project
 from reqlock_tools.rql.requests import EditRequest
-from reqlock_tools.rql.telling import is_told
+from reqlock_tools.rql.telling import is_told, telling
 from reqlock_tools.rql.texts import is_url
 
 # Those that change one line for each of their texts.
@@ -38,13 +39,18 @@ def run_edit(project: Project, request: EditRequest) -> int:
     """Makes an edit, or tells what it would change."""
     kept = Kept(project)
     with kept.locked():
-        if project.settings.sources:
-            from reqlock_tools.rql.sources_calls import edit_sources, sources_of
+        return edited(project, kept, request)
 
-            if request.word in (*OF_LINES, "constrain"):
-                return edit_sources(project, kept, request)
-            sources_of(project)  # (which refuses those that came apart from the lines)
-        status = Edit(project, kept, request).run()
+
+def edited(project: Project, kept: Kept, request: EditRequest, is_pending: bool = False) -> int:
+    """The status of an edit. Where its settings are pending, and so are given up with a refusal, why it has no solution is told at once."""
+    if project.settings.sources:
+        from reqlock_tools.rql.sources_calls import edit_sources, sources_of
+
+        if request.word in (*OF_LINES, "constrain"):
+            return edit_sources(project, kept, request)
+        sources_of(project)  # (which refuses those that came apart from the lines)
+    status = Edit(project, kept, request, is_pending).run()
     if status == BAD_INPUT and is_told(project.options):
         tell_changed(project)
     return status
@@ -53,8 +59,8 @@ def run_edit(project: Project, request: EditRequest) -> int:
 class Edit:
     """An edit of a project, with what it calls."""
 
-    def __init__(self, project: Project, kept: Kept, request: EditRequest) -> None:
-        self.project, self.kept, self.request = project, kept, request
+    def __init__(self, project: Project, kept: Kept, request: EditRequest, is_pending: bool = False) -> None:
+        self.project, self.kept, self.request, self.is_pending = project, kept, request, is_pending
         self.caller = Caller(project.options)
         self.index = self.fresh_index()
         self.caller.lacking = self.lacking
@@ -66,12 +72,15 @@ class Edit:
         word = self.request.word
         if word == "remove":
             return present_index(self.project, self.kept)
+        if word == "retarget":
+            return made_index(self.project, self.kept, Wanted(pins=pinned_in(self.request.pins)))
         texts = tuple(text for text in self.request.texts if not is_url(text)) if word in ("add", "set") else ()
         return made_index(self.project, self.kept, Wanted(texts=texts, is_asked=word in ASKING, untold=names_of(texts) if word == "add" else frozenset()))
 
     def given(self, folder: Path | None = None) -> list[str]:
-        """The words that tell of folder and index."""
-        return ["--dir", typed_path(folder or self.project.folder), "--index", typed_path(self.index)]
+        """The words that tell of folder and index, and of what is locked for where that is to change."""
+        targets = self.kept.environment_words() if self.request.word == "retarget" else []
+        return ["--dir", typed_path(folder or self.project.folder), "--index", typed_path(self.index), *targets]
 
     def words(self, *texts: str) -> list[str]:
         """The program's words for the edit of these texts."""
@@ -79,14 +88,24 @@ class Edit:
             from reqlock_tools.rql.texts import name_in
 
             return ["replace", "--line", name_in(texts[0]), texts[0]]
+        if self.request.word == "retarget":
+            return ["retarget", *self.pins()]
         return [self.request.word, *(["--"] * any(text.startswith("-") for text in texts)), *texts]
+
+    def pins(self) -> list[str]:
+        return [word for pins in self.request.pins for word in ("--pins", pins)]
+
+    def why(self) -> bytes:
+        """Why a change of the environments has no solution."""
+        return self.caller.ask(*self.given(), "why", "--explain", *self.keeping, "--retarget", *self.pins()).output
 
     def run(self) -> int:
         request, saving = self.request, Saving(self.project)
         if request.word in OF_LINES and len(request.texts) > 1:
             status = self.run_several()
         else:
-            status = self.caller.hand_over(*self.given(), *self.keeping, *self.drying, *self.words(*request.texts))
+            answer = self.why if self.is_pending else None
+            status = self.caller.hand_over(*self.given(), *self.keeping, *self.drying, *self.words(*request.texts), answer=answer)
         if saving.is_done(status) and not request.is_dry:
             accepted(self.project, self.kept, self.caller, self.index)
         if status == UNSOLVED:
@@ -148,6 +167,17 @@ class Edit:
         """The call that tells why one of several texts is refused."""
         words = ["why", "--explain"] if is_unsolved and self.request.word == "add" else ["-v", self.request.word, "--dry-run"]
         return shlex.join([*front(self.project.options.start), *words, text])
+
+
+def pinned_in(files: Sequence[str]) -> tuple[str, ...]:
+    """What files pin, as NAME==VERSION, so that the index has it. Of what they have else the program tells."""
+    from reqlock_tools.rql.pins import read_pins
+
+    pins: list[str] = []
+    for file in files:
+        with telling(False), suppress(Refusal, OSError):
+            pins += [f"{pin.name}=={pin.version}" for pin in read_pins(Path(file.rpartition("=")[2]))[0]]
+    return tuple(pins)
 
 
 def copied(folder: Path, place: Path) -> Path:

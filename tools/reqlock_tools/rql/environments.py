@@ -4,6 +4,7 @@ from collections.abc import Mapping
 from typing import Any
 
 from reqlock_tools.environment import SYSTEMS, VARIABLES, Refused, described_environment, own_environment, pair_of
+from reqlock_tools.rql.defaults import platform_name
 from reqlock_tools.rql.faults import SettingsFault
 from reqlock_tools.rql.settings import EnvironmentSetting, Settings
 
@@ -50,3 +51,9 @@ def label_of(told: Mapping[str, Any]) -> str:
     return f"Python {told['python_version']} on {told['sys_platform']} {told['platform_machine']}".rstrip()
 
 
+def of_journal(name: str, told: Mapping[str, Any]) -> EnvironmentSetting:
+    """The setting of an environment that is locked for."""
+    platform = platform_name(told)
+    if platform is None:
+        raise SettingsFault(f"{told.get('sys_platform')} {told.get('platform_machine')}, which is locked for, has no name: --platform gives one")
+    return EnvironmentSetting(name, str(told["python_full_version"]), platform)

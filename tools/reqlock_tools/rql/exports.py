@@ -8,6 +8,7 @@ from reqlock_tools.files import write_whole
 from reqlock_tools.refusal import speaker
 from reqlock_tools.regular_file import open_regular
 from reqlock_tools.rql.calls import Caller, typed_path
+from reqlock_tools.rql.history import journal_of
 from reqlock_tools.rql.kept import MODE, Kept
 from reqlock_tools.rql.project import Project
 from reqlock_tools.rql.settings import ExportSetting
@@ -21,8 +22,11 @@ say = speaker("rql")
 
 
 def exported(project: Project, kept: Kept, caller: Caller, export: ExportSetting) -> bytes | str:
-    """What an export is to hold, or why it can't be made: two targets can't stand in one file, or the index of its lock is gone. The latter is
-    also the answer where the lines were changed since they were locked, of which the program tells beside it."""
+    """What an export is to hold, or why it can't be made: its target isn't locked for, two targets can't stand in one file, or the index of its
+    lock is gone. The latter is also the answer where the lines were changed since they were locked, of which the program tells beside it."""
+    journal = journal_of(project) if export.target else None
+    if journal is not None and export.target not in journal.environments:
+        return f"target {export.target} isn't locked for: rql retarget"
     target = ["--target", export.target] if export.target else []
     indexes = [["--index", typed_path(index)] for index in kept.earlier()] if export.format == "pylock" else [[]]
     for index in indexes:

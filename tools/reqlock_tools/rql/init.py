@@ -12,10 +12,10 @@ from reqlock_tools.merge_sides import Journal
 from reqlock_tools.refusal import speaker
 from reqlock_tools.rql.calls import Caller, typed_path
 from reqlock_tools.rql.compiled import Pin
-from reqlock_tools.rql.defaults import indexes, own_platform, own_python, platform_name, refuse_platform, refuse_python, target_names
+from reqlock_tools.rql.defaults import indexes, own_platform, own_python, refuse_platform, refuse_python, target_names
 from reqlock_tools.rql.draft import Draft, draft_of, project_table
 from reqlock_tools.rql.edits import accepted
-from reqlock_tools.rql.environments import environments
+from reqlock_tools.rql.environments import environments, of_journal
 from reqlock_tools.rql.faults import IndexFault, SettingsFault
 from reqlock_tools.rql.history import Saving, content, is_whole, journal_of
 from reqlock_tools.rql.index import Wanted, absent_names, made_index
@@ -91,14 +91,6 @@ def journal_in(folder: Path) -> dict[str, Any]:
 
     data = content(folder / JOURNAL)
     return read_journal(str(folder / JOURNAL), data).environments if data else {}
-
-
-def of_journal(name: str, told: dict[str, Any]) -> EnvironmentSetting:
-    """The setting of an environment that is locked for."""
-    platform = platform_name(told)
-    if platform is None:
-        raise SettingsFault(f"{told.get('sys_platform')} {told.get('platform_machine')}, which is locked for, has no name: --platform gives one")
-    return EnvironmentSetting(name, str(told["python_full_version"]), platform)
 
 
 class Beginning:

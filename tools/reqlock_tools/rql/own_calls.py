@@ -10,8 +10,8 @@ from dataclasses import dataclass
 OF_SETTINGS = "--dir", "--index", "--env", "--for", "--output", "--color"
 # Subcommands that are words of rql too, and mean the same there.
 ALIKE = (
-    "add", "remove", "constrain", "upgrade", "relock", "undo", "redo", "forget", "show", "log", "diff", "outdated", "skipped", "export", "check",
-    "why",
+    "add", "remove", "constrain", "upgrade", "relock", "retarget", "undo", "redo", "forget", "show", "log", "diff", "outdated", "skipped", "export",
+    "check", "why",
 )
 
 

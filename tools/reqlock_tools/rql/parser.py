@@ -9,7 +9,7 @@ from reqlock_tools.refusal import hidden
 from reqlock_tools.rql.requests import (
     CheckRequest, EditRequest, EnvRequest, IndexRequest, InitRequest, LockRequest, Options, PassedRequest, Request, SyncRequest,
 )
-from reqlock_tools.rql.words import in_place_of_command, in_place_of_options
+from reqlock_tools.rql.words import in_place_of_command, in_place_of_kind, in_place_of_options
 
 DESCRIPTION = """Keep a project's requirements and its locks together: rql keeps the index fresh, and then calls the program reqlock,
 which decides every version."""
@@ -37,6 +37,15 @@ EDITS: dict[str, tuple[str, str, str, str]] = {
     "remove": ("take the lines of names out: all or none", "NAME", "+", "a name that has a line"),
     "set": ("put texts in the place of the lines of their names: all or none", "TEXT", "+", "a line, as 'flask[async]>=2'"),
     "upgrade": ("lock again without the locked versions of these names", "NAME", "*", "a locked name; without any, all of them"),
+}
+# The words behind `env`, and what stands for an option that isn't given.
+KINDS = {
+    "add": "lock for one environment more", "set": "lock for another Python, or another platform, in the place of one",
+    "remove": "lock for one environment less", "list": "print the environments",
+}
+ENV_OPTIONS = {
+    "add": ("else that of the first environment", "else the first whose name begins so"),
+    "set": ("else it stays", "else it stays"),
 }
 # The options of each call, in front of the command or behind it.
 FLAGS = {
@@ -115,6 +124,16 @@ def add_relock(words: "Subparsers", name: str) -> None:
     add_edit_options(own_parser(words, name, "lock again over a fresh index; versions stay where they can"))
 
 
+def add_retarget(words: "Subparsers", name: str) -> None:
+    add_retarget_options(own_parser(words, name, "lock for the environments as the settings have them, whoever changed these"))
+
+
+def add_retarget_options(parser: argparse.ArgumentParser) -> None:
+    told = "a lock, or lines, whose versions a new target begins with; or NAME=FILE"
+    parser.add_argument("--pins", metavar="FILE", action="append", default=[], help=told)
+    add_edit_options(parser)
+
+
 def add_edit_options(parser: argparse.ArgumentParser) -> None:
     parser.add_argument("--keep-locked", action="store_true", help="move no locked version that is still needed")
     parser.add_argument("--dry-run", action="store_true", help="save nothing; print what would change")
@@ -146,37 +165,42 @@ def add_index(words: "Subparsers", name: str) -> None:
 
 
 def add_env(words: "Subparsers", name: str) -> None:
-    parser = own_parser(words, name, "add, remove, lock or list the environments that are locked for")
-    kinds = parser.add_subparsers(dest="kind", metavar="add|remove|lock|list", required=True)
-    add = kinds.add_parser("add", help="lock for one environment more", allow_abbrev=False)
-    add.add_argument("name", metavar="NAME", help="the name of the target")
-    add.add_argument("--python", metavar="VERSION", default="", help="the version of Python, as 3.11; else that of the first environment")
-    add.add_argument("--platform", metavar="NAME", default="", help="the platform, as linux-x86_64; else the first whose name begins so")
-    remove = kinds.add_parser("remove", help="lock for one environment less", allow_abbrev=False)
-    remove.add_argument("name", metavar="NAME", help="the name of the target")
-    lock = kinds.add_parser("lock", help="lock for the environments as the settings have them, whoever changed these", allow_abbrev=False)
-    for command in add, remove, lock:
-        command.add_argument("--anew", action="store_true", help="begin a new history, with the versions that are locked")
-    kinds.add_parser("list", help="print the environments", allow_abbrev=False)
+    parser = own_parser(words, name, "add, set, remove or list the environments that are locked for")
+    kinds = parser.add_subparsers(dest="kind", metavar="|".join(KINDS), required=True)
+    for kind, told in KINDS.items():
+        command = own_parser(kinds, kind, told)
+        if kind == "list":
+            continue
+        if kind == "set":
+            command.add_argument("name", metavar="NAME", nargs="?", help="the name of the target; left out where there is one alone")
+        else:
+            command.add_argument("name", metavar="NAME", help="the name of the target")
+        if kind in ENV_OPTIONS:
+            python, platform = ENV_OPTIONS[kind]
+            command.add_argument("--python", metavar="VERSION", default="", help=f"the version of Python, as 3.11; {python}")
+            command.add_argument("--platform", metavar="NAME", default="", help=f"the platform, as linux-x86_64; {platform}")
+        add_retarget_options(command)
 
 
 # What adds the parser of each command, in the order of help.
 BUILDERS: dict[str, Callable[["Subparsers", str], None]] = {
-    "init": add_init, **dict.fromkeys(EDITS, add_edit), "constrain": add_constrain, "relock": add_relock, "lock": add_lock, "sync": add_sync,
-    "check": add_check, "index": add_index, "env": add_env, **dict.fromkeys((*PASSED, *TOOLS), add_passed),
+    "init": add_init, **dict.fromkeys(EDITS, add_edit), "constrain": add_constrain, "relock": add_relock, "retarget": add_retarget, "lock": add_lock,
+    "sync": add_sync, "check": add_check, "index": add_index, "env": add_env, **dict.fromkeys((*PASSED, *TOOLS), add_passed),
 }
 
 
 def parsed(arguments: Sequence[str]) -> tuple[Options, Request]:
     """The request that words spell. What stands behind the name of a call that is handed on is read by nobody here."""
-    place = place_of_word(arguments)
-    word = arguments[place] if place < len(arguments) else ""
+    place, word = place_of_word(arguments), word_in(arguments)
     is_handed_on = word in PASSED or word in TOOLS
     # (help in front of a word is that of all words)
     asks_help = any(argument in ("-h", "--help") for argument in arguments[:place])
     parser = parser_of(None if asks_help else word)
     if word and word not in BUILDERS and not asks_help:
         parser.error(f"there is no command {hidden(word)!a}: {in_place_of_command(word, BUILDERS)}")
+    kind = word_in(arguments[place + 1 :]) if word == "env" else ""
+    if kind and kind not in KINDS and not asks_help:
+        parser.error(f"there is no rql env {hidden(kind)!a}: {in_place_of_kind(kind, KINDS)}")
     told, rest = parser.parse_known_args(list(arguments[: place + 1] if is_handed_on else arguments))
     if rest:
         refuse_rest(parser, told.word, rest)
@@ -192,6 +216,11 @@ def refuse_rest(parser: argparse.ArgumentParser, word: str, rest: Sequence[str])
     choices = next(action.choices for action in parser._actions if isinstance(action, argparse._SubParsersAction))
     # (what stands in front of a word that is handed on is rql's own)
     (parser if word in PASSED or word in TOOLS else choices[word]).error(f"it doesn't take {hidden(' '.join(rest))}" + (f": {hint}" if hint else ""))
+
+
+def word_in(arguments: Sequence[str]) -> str:
+    """The first word behind options; none where there is none."""
+    return "".join(arguments[place_of_word(arguments) :][:1])
 
 
 def place_of_word(arguments: Sequence[str]) -> int:
@@ -210,6 +239,10 @@ def edit_request(told: argparse.Namespace) -> Request:
     return EditRequest(told.word, texts, told.keep_locked, told.dry_run)
 
 
+def retarget_request(told: argparse.Namespace) -> EditRequest:
+    return EditRequest("retarget", (), told.keep_locked, told.dry_run, tuple(told.pins))
+
+
 def init_request(told: argparse.Namespace) -> Request:
     return InitRequest(tuple(told.index), told.python, tuple(told.platform), tuple(told.pinned))
 
@@ -220,11 +253,12 @@ def sync_request(told: argparse.Namespace) -> Request:
 
 def env_request(told: argparse.Namespace) -> Request:
     python, platform = getattr(told, "python", ""), getattr(told, "platform", "")
-    return EnvRequest(told.kind, getattr(told, "name", ""), python, platform, getattr(told, "anew", False))
+    retarget = EditRequest("retarget", (), False, False) if told.kind == "list" else retarget_request(told)
+    return EnvRequest(told.kind, getattr(told, "name", None), python, platform, retarget)
 
 
 READERS: dict[str, Callable[[argparse.Namespace], Request]] = {
-    "init": init_request, "sync": sync_request, "env": env_request,
+    "init": init_request, "sync": sync_request, "env": env_request, "retarget": retarget_request,
     "lock": lambda told: LockRequest(told.check),
     "check": lambda told: CheckRequest(told.current, told.json),
     "index": lambda told: IndexRequest(tuple(told.names)),

@@ -17,6 +17,8 @@ from reqlock_tools.rql.telling import is_told
 
 # Those that go to another state of the history.
 MOVING = "undo", "redo"
+# The options of a question that is about the environments of the settings.
+TARGETING = frozenset(("--init", "--retarget"))
 # What saves a history, and leaves its present state.
 SHORTENING = "forget"
 # Those that read the index, where it is there.
@@ -68,12 +70,13 @@ def index_to_read(project: Project, kept: Kept, word: str) -> list[Path]:
 
 
 def moved(project: Project, kept: Kept, caller: Caller, given: list[str], call: list[str]) -> int:
-    """Goes to another state, and has the sources and the exports follow."""
+    """Goes to another state, and has the sources, the environments of the settings and the exports follow."""
     from reqlock_tools.rql.edits import accepted
-    from reqlock_tools.rql.history import Saving
+    from reqlock_tools.rql.history import Saving, journal_of
+    from reqlock_tools.rql.targets_followed import followed
 
     with kept.locked():
-        saving = Saving(project)
+        saving, before = Saving(project), journal_of(project)
         if project.settings.sources:
             from reqlock_tools.rql.sources_calls import moved_sources
 
@@ -81,14 +84,14 @@ def moved(project: Project, kept: Kept, caller: Caller, given: list[str], call: 
         else:
             status = caller.hand_over(*given, *call)
         if saving.is_done(status) and "--dry-run" not in call:
-            accepted(project, kept, caller, None)
+            accepted(followed(project, before), kept, caller, None)
     return status
 
 
 def answered(project: Project, index: Path, caller: Caller, given: list[str], request: PassedRequest) -> int:
     """Hands a question on. Behind the answer it is told what constraints leave out of the packages that this is about: where that can't be
     read any more, the status stays the program's."""
-    environments = Kept(project).environment_words() if "--init" in request.words else []
+    environments = Kept(project).environment_words() if not TARGETING.isdisjoint(request.words) else []
     whole = [*given, *index_words([index]), *environments, request.word, *request.words]
     status = caller.hand_over(*whole)
     if status in ANSWERS and is_told(with_told(project.options, request.words)):

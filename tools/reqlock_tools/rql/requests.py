@@ -35,12 +35,14 @@ class InitRequest:
 
 @dataclass(frozen=True)
 class EditRequest:
-    """An edit: `word` is add, remove, constrain, set, upgrade or relock, and `texts` is what stands behind it."""
+    """An edit: `word` is add, remove, constrain, set, upgrade, relock or retarget, and `texts` is what stands behind it. `pins` are files whose
+    pins a new target begins with, each as FILE or NAME=FILE."""
 
     word: str
     texts: tuple[str, ...]
     keeps_locked: bool
     is_dry: bool
+    pins: tuple[str, ...] = ()
 
 
 @dataclass(frozen=True)
@@ -78,13 +80,14 @@ class IndexRequest:
 
 @dataclass(frozen=True)
 class EnvRequest:
-    """Change or list the environments: `word` is add, remove, lock or list."""
+    """Change or list the environments: `word` is add, set, remove or list, and `name` is None where nobody typed one. `retarget` is the edit
+    that has the history follow."""
 
     word: str
-    name: str
+    name: str | None
     python: str
     platform: str
-    is_anew: bool
+    retarget: EditRequest
 
 
 @dataclass(frozen=True)

@@ -12,6 +12,8 @@ COMMENTS = {
     "exports": "written anew after each accepted call",
     "environment": "what is locked for",
 }
+# The keys of an environment.
+KEYS = "python", "platform", "glibc", "musl", "macos"
 
 
 def quoted(text: str) -> str:
@@ -23,7 +25,7 @@ def array(texts: Sequence[str]) -> str:
 
 
 def environment_text(environment: EnvironmentSetting) -> str:
-    keys = {key: getattr(environment, key) for key in ("python", "platform", "glibc", "musl", "macos")}
+    keys = {key: getattr(environment, key) for key in KEYS}
     return "{ " + ", ".join(f"{key} = {quoted(value)}" for key, value in keys.items() if value) + " }"
 
 
