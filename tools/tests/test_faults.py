@@ -13,9 +13,9 @@ PAGE = os.sysconf("SC_PAGESIZE")
 
 # Calls over a folder, one or more of each subcommand that reads one.
 IN_A_FOLDER = (
-    ["init"], ["add", "c"], ["remove", "a"], ["constrain", "a"], ["upgrade"], ["relock"], ["replace", "-"], ["undo"], ["redo"], ["batch"],
+    ["init"], ["add", "c"], ["remove", "a"], ["constrain", "a"], ["upgrade"], ["relock"], ["replace", "-"], ["retarget"], ["undo"], ["redo"], ["batch"],
     ["forget", "--keep", "0"], ["try"], ["show"], ["show", "a"], ["show", "--tree"], ["log"], ["diff"], ["check"], ["check", "--current"], ["outdated"], ["export"],
-    ["why"], ["why", "--init"], ["why", "--not", "a"], ["why", "--replace", "-"], ["add", "c", "--dry-run"], ["undo", "--dry-run"], ["init", "--dry-run"],
+    ["why"], ["why", "--init"], ["why", "--not", "a"], ["why", "--replace", "-"], ["why", "--retarget"], ["add", "c", "--dry-run"], ["undo", "--dry-run"], ["init", "--dry-run"],
 )
 
 

@@ -8,7 +8,7 @@ import subprocess
 import sys
 import unittest
 
-from support.made.environments import LINUX, WINDOWS
+from support.made.environments import LINUX, MACOS, OLDER, WINDOWS
 from support.places import SUPPORT
 from support.program import NOBODY, Fifty
 
@@ -17,13 +17,13 @@ import growths  # (it stands in tools/)
 SOURCE = SUPPORT / "file_calls.c"
 EDITS = (
     ["add", "p02"], ["remove", "p00"], ["constrain", "p00", "<2"], ["upgrade"], ["upgrade", "p00"], ["relock"], ["undo"], ["redo"],
-    ["replace", "-"], ["relock", "--if-needed"], ["forget", "--before", "1"], ["forget", "--keep", "1"],
+    ["replace", "-"], ["retarget"], ["relock", "--if-needed"], ["forget", "--before", "1"], ["forget", "--keep", "1"],
 )
 READINGS = (
     ["show"], ["show", "p00"], ["show", "--tree"], ["show", "--json"], ["log"], ["log", "--long"], ["log", "--json"], ["diff"],
     ["diff", "0", "1"], ["diff", "--json"], ["check"], ["check", "--json"], ["check", "--current"], ["outdated"], ["outdated", "--json"],
     ["why"], ["why", "p02"], ["why", "--constrain", "p00", "<2"], ["why", "--upgrade"], ["why", "--remove", "p00"],
-    ["why", "--not", "p00==1"], ["why", "--replace", "-"],
+    ["why", "--not", "p00==1"], ["why", "--replace", "-"], ["why", "--retarget"],
 )
 # what is told of one target, where there are several
 EXPORTS = ["export"], ["export", "--format", "pylock"]
@@ -220,6 +220,41 @@ class FileCalls(Fifty):
                 self.assertEqual(self.watched("forget", "--before", "1", FILE_CALLS_STOP=str(number))[:2], (-9, ""))
                 self.assertEqual(self.call("relock"), (0, "same\n"))
                 self.assertEqual(self.files(), after if "rename reqlock.journal" in calls[: number - 1] else before)
+
+    def check_stops(self, before, words, changing):
+        """A call that is stopped before it changes a file in its place saved nothing; one that is stopped behind that is ended by the
+        next one that saves. Either way nothing is left beside."""
+        self.put(before)
+        status, output, calls = self.watched(*words)
+        self.assertEqual(status, 0, output)
+        after = self.files()
+        self.assertEqual([call for call in calls if call in changing], changing)
+        for number, call in enumerate(calls, 1):
+            with self.subTest(words=words, number=number, call=call):
+                self.put(before)
+                self.assertEqual(self.watched(*words, FILE_CALLS_STOP=str(number))[:2], (-9, ""))
+                self.assertEqual(self.call("relock"), (0, "same\n"))
+                self.assertEqual(self.files(), after if changing[0] in calls[: number - 1] else before)
+        return after
+
+    def test_a_stop_at_each_call_that_changes_targets(self):
+        """What was stopped is ended or taken back, whether locks come, go or change."""
+        one, other, third = {"linux": LINUX}, {"win": WINDOWS}, {"linux": OLDER, "mac": MACOS, "win": WINDOWS}
+        journal = "rename reqlock.journal"
+        for old, new, there, back in (
+            (one, one | other, [journal, "rename pylock.win.toml"], ["unlink pylock.win.toml", journal]),
+            (one, other, ["unlink pylock.linux.toml", journal, "rename pylock.win.toml"], ["unlink pylock.win.toml", journal, "rename pylock.linux.toml"]),
+            (one | other, third, ["rename pylock.linux.toml", journal, "rename pylock.mac.toml"], ["unlink pylock.mac.toml", "rename pylock.linux.toml", journal]),
+            (third, one, ["unlink pylock.mac.toml", "unlink pylock.win.toml", "rename pylock.linux.toml", journal], ["rename pylock.linux.toml", journal, "rename pylock.mac.toml", "rename pylock.win.toml"]),
+        ):
+            for path in self.folder.iterdir():
+                path.unlink()
+            self.lock_for(old)
+            self.begin_all()
+            self.lock_for(new)
+            after = self.check_stops(self.files(), ["retarget"], there)
+            before = self.check_stops(after, ["undo"], back)
+            self.assertEqual(self.check_stops(before, ["redo"], there), after)
 
     def test_a_file_system_without_locks(self):
         self.begin_all()

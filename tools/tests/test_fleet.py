@@ -25,7 +25,12 @@ class Parts(unittest.TestCase):
         lines = ["- 2: a<2", "+ 2: a -> b", "\\ no line ending"]
         entries = [Entry("linux", "a", "1", "2"), Entry("linux", "b", None, "1.0"), Entry("windows", "c", "3", None)]
         moved = ["moved: a 1 -> 2 (no solution keeps all that is locked)"]
-        self.assertEqual(read_changes(text), (lines, entries, True, moved))
+        self.assertEqual(read_changes(text), (lines, entries, True, moved, []))
+
+    def test_what_one_of_targets_tells(self):
+        targets = ["+ target", "+ target mac", "target linux: platform_version #1 SMP  -> #2 -> x"]
+        text = "\n".join([*targets, "target linux", "- old 1", "target mac", "+ 12 entries", "target win", "- 1 entry", ""])
+        self.assertEqual(read_changes(text), ([], [Entry("linux", "old", "1", None)], False, [], targets))
 
     def test_which_reasons_are_the_same(self):
         one = "No choice meets line 3 (a<2) and line 12 as constrained (b>=2).\n1. x doesn't match >=2 of\n   line 12, and line 3 allows 1."

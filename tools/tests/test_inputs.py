@@ -25,17 +25,18 @@ class Order(Program):
     SAVED = "requirements.txt", "reqlock.journal", "pylock.toml"
     EDITED = *SAVED, "index"
     BEGUN = "requirements.txt", "index", "environment"
+    RETARGETED = *EDITED, "environment"
     NEEDED = (
         (["undo"], SAVED), (["redo"], SAVED), (["forget", "--keep", "0"], SAVED), (["show"], SAVED), (["log"], SAVED), (["check"], SAVED),
         (["add", "c"], EDITED),
         (["remove", "a"], EDITED), (["constrain", "a"], EDITED), (["upgrade"], EDITED), (["relock"], EDITED), (["batch"], EDITED),
-        (["why"], EDITED), (["why", "c"], EDITED), (["replace", "--line", "a", "c"], EDITED), (["outdated"], EDITED), (["diff"], SAVED),
+        (["why"], EDITED), (["why", "c"], EDITED), (["replace", "--line", "a", "c"], EDITED), (["retarget"], RETARGETED), (["outdated"], EDITED), (["diff"], SAVED),
         (["export"], SAVED), (["init"], BEGUN), (["try"], BEGUN), (["skipped"], ["index"]),
     )
     # What makes each file faulty and what is then told, in the order in which faults are told.
     SAVED_FAULTS = {
         "reqlock.journal": (b"[", "line 1: journal-broken"), "requirements.txt": (b"a\n-e .\n", "files-disagree"),
-        "pylock.toml": (b"", "files-disagree"), "index": (b"{", "not-json"),
+        "pylock.toml": (b"", "files-disagree"), "index": (b"{", "not-json"), "environment": (b"{}", "bad-environment implementation_name"),
     }
     BEGUN_FAULTS = {
         "requirements.txt": (b"a\n-e .\n", "line 2: option-line"), "index": (b"{", "not-json"),
@@ -58,7 +59,7 @@ class Order(Program):
 
     def faults(self, names):
         """A fault of each of these files, in the order in which they are told."""
-        told = self.BEGUN_FAULTS if "environment" in names else self.SAVED_FAULTS
+        told = self.SAVED_FAULTS if "pylock.toml" in names else self.BEGUN_FAULTS
         return [(name, *fault) for name, fault in told.items() if name in names]
 
     def check_told(self, words, faults):

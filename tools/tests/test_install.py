@@ -301,7 +301,7 @@ class Installed(unittest.TestCase):
         stepping = {*EVERYWHERE, "--dir", "--dry-run"}
         editing = {"a", "b", *stepping, "--index", "--keep-locked", "--if-needed"}
         for words, wanted in (
-            (["reqlock", "re"], {"remove", "relock", "replace", "redo"}), (["reqlock", "--i"], {"--index"}),
+            (["reqlock", "re"], {"remove", "relock", "replace", "retarget", "redo"}), (["reqlock", "--i"], {"--index"}),
             (["reqlock", "--index", "x", "why", "--ex"], {"--explain"}), (["reqlock", "--dir", "d", "upgrade", ""], editing),
             (["reqlock", "upgrade", "--dir", "d", ""], editing), (["reqlock", "log", "--l"], {"--long"}),
             (["reqlock", "--dir", "a f"], {"a folder"}), (["reqlock", "help", "ba"], {"batch"}), (["reqlock", "undo", ""], stepping),

@@ -94,7 +94,7 @@ class Opening(Example):
 
     # What no header has, and what no target has: in version 1 the header itself tells its target.
     BAD_HEADERS = (
-        {"cursor": 2}, {"x": 1}, {"journal": 0}, {"journal": 3}, {"journal": True}, {"journal": "2"}, {"journal": None},
+        {"cursor": 2}, {"x": 1}, {"journal": 0}, {"journal": 4}, {"journal": True}, {"journal": "2"}, {"journal": None},
         {"steps": "1"}, {"cursor": -1}, {"cursor": 1.0}, {"requirements": ZEROS.replace("0", "A")}, {"steps": 2**64},
     )
     BAD_TARGETS = (

@@ -40,7 +40,7 @@ class Subcommands(unittest.TestCase):
         self.assertFalse(fleet_request.WHY.keys() & fleet_request.OTHERS.keys())
 
     def test_rql_knows_each(self):
-        """It hands on those that aren't its own; `tree` is `show --tree`. The three that it lacks take lines by standard input or files."""
+        """It hands on those that aren't its own; `tree` is `show --tree`. Those that it lacks take lines by standard input, or files."""
         known = next(it.choices for it in parser.parser_of()._actions if it.dest == "word")
         self.assertEqual(self.names - known.keys(), {"batch", "replace", "try"})
         self.assertEqual(parser.PASSED.keys() - self.names, {"tree"})

@@ -107,14 +107,14 @@ class OfRql(Completed):
             if shutil.which(shell):
                 with self.subTest(shell=shell):
                     self.assertLessEqual(COMMANDS, self.offered(shell))
-                    self.assertLessEqual({"add", "remove", "list"}, self.offered(shell, "env"))
+                    self.assertLessEqual({"add", "set", "remove", "list"}, self.offered(shell, "env"))
                     for word in "remove", "constrain", "upgrade", "set":
                         self.assertEqual(self.offered(shell, word), {"a", "c-1.2_x", "D"})
                     self.assertEqual(self.offered(shell, "env", "remove"), set())
 
     def test_options(self):
         self.assertLessEqual({"--dry-run", "--keep-locked"}, self.all_offered("bash", "add"))
-        self.assertLessEqual({"--python", "--anew"}, self.all_offered("bash", "env", "add"))
+        self.assertLessEqual({"--python", "--pins", "--dry-run"}, self.all_offered("bash", "env", "add"))
         self.assertEqual(self.offered("bash", "lock", "--check"), set())
 
 

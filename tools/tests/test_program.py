@@ -30,6 +30,7 @@ class Help(Program):
         "init": {DIR, INDEX, ENV, "--pins <FILE>", "--dry-run"},
         "add": {"<TEXT>"} | LOCKING, "remove": {"<NAME>"} | LOCKING, "constrain": {"<NAME>", "[SPEC]"} | LOCKING,
         "upgrade": {"[NAME]..."} | LOCKING, "relock": LOCKING, "replace": {"[NEW]"} | NEW | LOCKING,
+        "retarget": {ENV, "--pins <FILE>"} | LOCKING,
         "undo": {DIR, "--dry-run"}, "redo": {DIR, "--dry-run"}, "forget": {DIR, "--before <N>", "--keep <N>", "--dry-run"},
         "batch": {DIR, INDEX, "--keep-locked", "--all-or-none"}, "try": {DIR, INDEX, ENV},
         "show": {"[NAME]", "--tree"} | READING, "log": {DIR, "--long", "--json"}, "diff": {"[FROM]", "[TO]", DIR, "--json"},
@@ -37,7 +38,7 @@ class Help(Program):
         "export": {"--format <FORMAT>", "--target <NAME>", "--covers <FILE>...", DIR, INDEX},
         "why": {
             "[TEXT]", DIR, INDEX, ENV, "--keep-locked", "--explain", "--init", "--constrain <NAME> [SPEC]", "--upgrade [<NAME>...]",
-            "--remove <NAME>", "--not <NAME[==VERSION]>", "--long", "--replace [<NEW>]",
+            "--remove <NAME>", "--not <NAME[==VERSION]>", "--long", "--replace [<NEW>]", "--retarget",
         } | NEW,
     }
 

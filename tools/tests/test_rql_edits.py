@@ -345,7 +345,7 @@ class Exports(Served):
         environments = "".join(f'{it} = {{ python = "3.11", platform = "{it}-x86_64" }}\n' for it in ("linux", "windows"))
         exports = 'exports = [{ file = "deploy/lock.toml", format = "pylock" }]\n'
         self.put("reqlock.toml", f'index = ["{self.index.url}"]\n{exports}[environments]\n{environments}')
-        self.accepts("env", "lock")
+        self.accepts("retarget")
         self.accepts("add", "click ; sys_platform == 'win32'")
         lock = tomllib.loads((self.folder / "deploy" / "lock.toml").read_text(encoding="utf-8"))
         self.assertEqual([(it["name"], "marker" in it) for it in lock["packages"]], [("click", True), ("rich", False)])

@@ -1,6 +1,5 @@
-"""Tests of `rql lock`, `rql check` and `rql env`: over hand edits, over what the real git merges, and over settings that differ."""
+"""Tests of `rql lock` and `rql check`: over hand edits, over what the real git merges, and over settings that differ."""
 
-import importlib.util
 import os
 import re
 import shutil
@@ -8,8 +7,6 @@ import unittest
 
 from support.made.served_index import wheel_of
 from support.rql_projects import ENVIRONMENT, Committed, Served
-
-WINDOWS = "--python", "3.11", "--platform", "windows-x86_64"
 
 
 class Lines(Served):
@@ -214,26 +211,19 @@ class Checks(Served):
     def test_targets_that_differ(self):
         told = (
             ('environment = { python = "3.12", platform = "linux-x86_64" }',
-             "the target without a name is Python 3.12 on linux x86_64 in the settings, and Python 3.11 on linux x86_64 is locked for: rql env lock"),
+             "the target without a name is Python 3.12 on linux x86_64 in the settings, and Python 3.11 on linux x86_64 is locked for: rql retarget"),
             ('[environments]\nlinux = { python = "3.11", platform = "linux-x86_64" }',
-             "target linux is in the settings, and isn't locked for: rql env lock"),
+             "target linux is in the settings, and isn't locked for: rql retarget"),
         )
-        for text, line in told:
+        for step, (text, line) in enumerate(told, 1):
             self.settings(text)
             found, output, errors = self.rql("check")
-            self.assertEqual((found, output), (1, "ok 0\n"))
+            self.assertEqual((found, output), (1, f"ok {step - 1}\n"))
             self.assertIn(line, errors)
-            self.accepts("env", "lock", answer="ok 0\n")
-            self.assertEqual(self.accepts("check", answer="ok 0\n"), "")
-            self.accepts("env", "lock", answer="ok 0\n")
-        self.accepts("constrain", "rich", ">=1")
-        self.settings('environment = { python = "3.12", platform = "linux-x86_64" }')
-        before = self.files()
-        self.assertIn("its 1 steps can't be undone any more; versions stay. --anew has it so", self.refuses("env", "lock"))
-        self.assertEqual(self.files(), before)
-        self.accepts("env", "lock", "--anew", answer="ok 0\n")
+            self.accepts("retarget", answer=f"ok {step}\n")
+            self.assertEqual(self.accepts("check", answer=f"ok {step}\n"), "")
+            self.accepts("retarget", answer="same\n")
         self.assertIn("rich  1  ", self.rql("show")[1])
-        self.assertEqual(self.accepts("check", answer="ok 0\n"), "")
 
     def test_a_patch_of_python_makes_no_difference(self):
         self.settings('environment = { python = "3.11.7", platform = "linux-x86_64" }')
@@ -245,81 +235,6 @@ class Checks(Served):
 
     def test_json_is_the_programs(self):
         self.assertEqual(self.rql("check", "--json")[1].strip()[:1], "{")
-
-
-@unittest.skipUnless(importlib.util.find_spec("tomlkit"), "python3 has no tomlkit: apt-get install python3-tomlkit")
-class Targets(Served):
-    def setUp(self):
-        super().setUp()
-        self.serve(rich=[wheel_of("rich", "1"), wheel_of("rich", "2")], colors=[wheel_of("colors", "1")])
-        self.begin("rich<2\n")
-
-    def test_one_more_and_one_less(self):
-        settings = self.folder / "reqlock.toml"
-        with open(settings, "a", encoding="utf-8") as file:
-            file.write("# mine\n")
-        before = settings.read_text(encoding="utf-8")
-        self.accepts("env", "add", "windows", *WINDOWS, answer="ok 0\n")
-        self.assertEqual(sorted(it for it in os.listdir(self.folder) if "pylock" in it), ["pylock.linux.toml", "pylock.windows.toml"])
-        text = settings.read_text(encoding="utf-8")
-        self.assertIn("# mine\n", text)
-        self.assertTrue(text.startswith(before.splitlines()[0]))
-        self.accepts("check", answer="ok 0\n")
-        self.accepts("env", "remove", "windows", answer="ok 0\n")
-        self.assertEqual(sorted(it for it in os.listdir(self.folder) if "pylock" in it), ["pylock.linux.toml"])
-        self.accepts("check", answer="ok 0\n")
-
-    def test_what_a_name_means(self):
-        self.accepts("env", "add", "windows", answer="ok 0\n")
-        self.assertEqual([line.split() for line in self.rql("env", "list")[1].splitlines()[1:]], [
-            ["linux", "3.11", "linux-x86_64"], ["windows", "3.11", "windows-x86_64"],
-        ])
-        self.assertIn("which platform is it?", self.refuses("env", "add", "server"))
-        self.assertIn("--platform vax: one of linux-x86_64, ", self.refuses("env", "add", "server", "--platform", "vax"))
-
-    def test_exports_are_of_the_target_that_got_a_name(self):
-        path = self.folder / "reqlock.toml"
-        path.write_text('exports = [{ file = "out.txt" }]  # deployed\n' + path.read_text(encoding="utf-8"), encoding="utf-8")
-        self.accepts("env", "add", "windows")
-        self.assertIn('target = "linux"}]  # deployed\n', path.read_text(encoding="utf-8").replace(" }", "}"))
-        self.assertIn("rich==1", (self.folder / "out.txt").read_text(encoding="utf-8"))
-
-    def test_a_lock_for_installers_is_of_all_targets(self):
-        path = self.folder / "reqlock.toml"
-        path.write_text('exports = [{ file = "out.toml", format = "pylock" }]\n' + path.read_text(encoding="utf-8"), encoding="utf-8")
-        self.accepts("env", "add", "windows")
-        self.assertNotIn("target", path.read_text(encoding="utf-8"))
-        self.assertIn('name = "rich"', (self.folder / "out.toml").read_text(encoding="utf-8"))
-
-    def test_versions_stay(self):
-        self.accepts("constrain", "rich")
-        self.accepts("env", "add", "windows", "--anew", *WINDOWS, answer="ok 0\n")
-        self.assertEqual([line.split()[1] for line in self.rql("show")[1].splitlines() if line.startswith("rich")], ["1", "1"])
-
-    def test_steps_are_lost_by_no_accident(self):
-        self.accepts("constrain", "rich")
-        before = self.files()
-        errors = self.refuses("env", "add", "windows", *WINDOWS)
-        self.assertIn("its 1 steps can't be undone any more; versions stay. --anew has it so", errors)
-        self.assertEqual(self.files(), before)
-
-    def test_what_is_refused_changes_nothing(self):
-        before = self.files()
-        for words, fault in (
-            (("add", "Windows", *WINDOWS), "it is no name of a target"), (("add", "linux", *WINDOWS), "this target is there already"),
-            (("add", "a", "--python", "2.7", "--platform", "linux-x86_64"), "is no version of Python 3"),
-            (("remove", "none"), "isn't among them"), (("remove", ""), "is the only one"),
-        ):
-            self.assertIn(fault, self.refuses("env", *words))
-        self.assertEqual(self.files(), before)
-
-    def test_a_target_that_is_exported_is_not_removed(self):
-        targets = "".join(f'{it} = {{ python = "3.11", platform = "{it}-x86_64" }}\n' for it in ("linux", "windows"))
-        exports = 'exports = [{ file = "out.txt", target = "windows" }]\n'
-        text = self.put("reqlock.toml", f'index = ["{self.index.url}"]\n{exports}[environments]\n{targets}').read_text(encoding="utf-8")
-        self.assertIn("exports[0]: out.txt is of windows: take it out of the settings first", self.refuses("env", "remove", "windows"))
-        self.put("reqlock.toml", text.replace(exports, ""))
-        self.accepts("env", "remove", "windows", answer="ok 0\n")
 
 
 if __name__ == "__main__":

@@ -53,6 +53,13 @@ class Typed(Begun):
         self.check_typed("add", "flask>=9", status=3)
         self.check_typed("add", "rich", status=1)
 
+    def test_other_environments(self):
+        self.put("reqlock.toml", (self.folder / "reqlock.toml").read_text(encoding="utf-8").replace("3.11", "3.12"))
+        (self.folder / ".reqlock" / "environment.json").unlink()
+        for words in ["retarget"], ["retarget", "--keep-locked"], ["retarget", "--dry-run"]:
+            with self.subTest(words=words):
+                self.check_typed(*words)
+
     def test_a_question(self):
         for words in ["check"], ["check", "--current"], ["outdated"], ["show"], ["tree"], ["log"], ["export"], ["skipped"], ["diff"]:
             with self.subTest(words=words):
@@ -88,13 +95,16 @@ class Words(Begun):
 
     def test_of_env(self):
         before = self.files()
-        pins = "--pins", "linux=.reqlock/pins.pylock.toml", "--pins", "windows=.reqlock/pins.pylock.toml"
-        words = ["--dir", ".", "--index", ".reqlock/index.asked.json", *ENVIRONMENTS, "init", *pins]
-        self.assertEqual(self.given("env", "add", "windows", status=3), words)
+        index = "--dir", ".", "--index", ".reqlock/index.asked.json"
+        words = [*index, *ENVIRONMENTS, "--keep-locked", "--dry-run", "retarget", "--pins", "windows=pins.txt", "--pins", "more.toml"]
+        given = "--dry-run", "--pins", "windows=pins.txt", "--keep-locked", "--pins", "more.toml"
+        self.assertEqual(self.given("env", "add", "windows", *given, status=3), words)
+        self.assertEqual(self.given("env", "add", "windows", status=3), [*index, *ENVIRONMENTS, "retarget"])
+        own = "--env", ".reqlock/environment.json", "retarget"
+        self.assertEqual(self.given("env", "set", "--python", "3.12", status=3), [*index, *own])
         self.assertEqual(self.files(), before)
         self.put("reqlock.toml", before["reqlock.toml"].decode().replace("3.11", "3.12"))
-        words = ["--env", ".reqlock/environment.json", "init", "--pins", ".reqlock/pins.pylock.toml"]
-        self.assertEqual(self.given("env", "lock", status=3), ["--dir", ".", "--index", ".reqlock/index.asked.json", *words])
+        self.assertEqual(self.given("retarget", status=3), [*index, *own])
 
 
 if __name__ == "__main__":

@@ -122,7 +122,7 @@ class Week(Committed):
 
     def a_platform(self):
         """Friday: it is to run on Windows too."""
-        self.types("rql env add windows --anew")
+        self.types("rql env add windows")
         self.commit("windows")
         self.syncs(web="1", urllib3="2.1", rich="2", tool="2", aid="1")
 

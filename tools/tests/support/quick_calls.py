@@ -96,6 +96,9 @@ HISTORY = Session("web", [
     call("--index index.json replace -", 0, "ok 4", text="flask\nflask\n"),
     call("--index index.json remove flask", 1, "refused ambiguous"),
     call("log", 0, "  0 init", "  1 remove requests", "  2 constrain flask >=2,<3", "  3 remove colorama", "* 4 replace: 2 lines"),
+    call("--index index.json --env environment.json retarget", 0, "same"),
+    call("--index index.json --env windows=windows.json retarget", 0, "ok 5"),
+    call("undo", 0, "ok 4"),
 ])
 
 # (a folder under the name that the lock is written to)

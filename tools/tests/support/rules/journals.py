@@ -1,5 +1,5 @@
 """What a requirements file, locks and a journal stand for: the rules of journals read plainly, for tests that ask what an answer must
-be. It is written from the rules alone, so that it shares no mistake with the program. Journals are of version 1 or 2.
+be. It is written from the rules alone, so that it shares no mistake with the program. Journals are of version 1, 2 or 3.
 
 `opens` answers ("ok", cursor, steps), ("files-disagree", FILE) or ("journal-broken", LINE), and `opens_in` also ("unreadable", FILE). `tells_in`
 is what is told without the lines."""
@@ -19,6 +19,7 @@ REQUIREMENTS, JOURNAL = "requirements.txt", "reqlock.journal"
 HEADER_KEYS = {
     1: {"cursor", "environment", "journal", "lock", "requirements", "steps"},
     2: {"cursor", "journal", "requirements", "steps", "targets"},
+    3: {"cursor", "journal", "requirements", "steps", "targets"},
 }
 TARGET_KEYS = {"environment", "lock", "name"}
 
@@ -126,15 +127,35 @@ def read_splice(value):
 
 
 def read_entry(value, version, targets):
-    """The entry of an array, on one of these targets. Version 1 doesn't name the target."""
-    target, name, old, new = parts(value, 4) if version == 2 else ["", *parts(value, 3)]
+    """The entry of an array, on one of these targets. Version 1 doesn't name the target; in version 3 it may be of any."""
+    target, name, old, new = ["", *parts(value, 3)] if version == 1 else parts(value, 4)
     want_text(target)
-    want(target in targets, "a target of the header")
+    want(is_target_name(target) if version == 3 else target in targets, "a target of the header")
     want_name(name)
     for entry in old, new:
         if entry is not None:
             want_entry(name, entry)
     return target, name, old, new
+
+
+def read_target_change(value):
+    """The change of a target: its name, its old environment or none, and its new one or none."""
+    name, *environments = parts(value, 3)
+    want_text(name)
+    want(is_target_name(name), "a target's name")
+    for environment in environments:
+        if environment is not None:
+            want_keys(environment, TEXTS)
+    return name, *[environment and read_environment(environment) for environment in environments]
+
+
+def read_target_changes(step, version):
+    """The changes of targets of a step, and its other keys. Where version 3 has the key `targets`, there are some."""
+    if version < 3 or not isinstance(step, dict) or "targets" not in step:
+        return [], step
+    want_list(step["targets"])
+    want(step["targets"], "changes of targets")
+    return list(map(read_target_change, step["targets"])), {key: value for key, value in step.items() if key != "targets"}
 
 
 def read_step(line, header):
@@ -143,9 +164,9 @@ def read_step(line, header):
 
 
 @lru_cache(2**10)
-def step_for(line, version, targets):
+def step_for(line, version, names):
     """The same in a version, with targets of these names."""
-    step = read_json(line)
+    targets, step = read_target_changes(read_json(line), version)
     want_keys(step, ("entries", "lines", "snapshot"))
     want_list(step["lines"])
     want_list(step["entries"])
@@ -153,8 +174,8 @@ def step_for(line, version, targets):
     if digests is not None:
         for digest in parts(digests, 2):
             want_digest(digest)
-    entries = [read_entry(value, version, targets) for value in step["entries"]]
-    change = Change(list(map(read_splice, step["lines"])), entries, digests and tuple(digests))
+    entries = [read_entry(value, version, names) for value in step["entries"]]
+    change = Change(list(map(read_splice, step["lines"])), entries, digests and tuple(digests), targets)
     want(is_minimal(change), "a minimal change")
     return change
 

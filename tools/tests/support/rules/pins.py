@@ -53,6 +53,28 @@ def replaced(state, lines, files, index, only_kept=False):
     return locked(lines, problems, index)
 
 
+def agreed(targets):
+    """The versions that are locked for targets, of each name that no two of them have different versions of."""
+    found = {}
+    for target in targets.values():
+        for name, entry in target.entries.items():
+            found.setdefault(name, []).append(read_version(entry["version"]))
+    return {name: versions[0] for name, versions in found.items() if len(set(map(order_key, versions))) == 1}
+
+
+def retargeted(state, environments, files, index, only_kept=False):
+    """The state with other targets. One that stays by its name keeps its versions; another one those that are handed in for it, and of the
+    names that these lack those that the present targets agree on."""
+    problems = {}
+    for name, environment in sorted(environments.items()):
+        if name in state.targets:
+            kept = kept_after(state.targets[name].entries, [])
+        else:
+            kept = agreed(state.targets) | newer_of({}, pins_for(files, name, environment), index)
+        problems[name] = Problem(state.lines, environment, index, kept, only_kept)
+    return locked(state.lines, problems, index)
+
+
 def begun_with(lines, environments, files, index):
     """The first state of a history that keeps what files pin."""
     problems = {

@@ -31,11 +31,13 @@ class State(NamedTuple):
 
 
 class Change(NamedTuple):
-    """Splices as (place, old lines, new lines), entries as (target, name, old, new), and two digests or none."""
+    """Splices as (place, old lines, new lines), entries as (target, name, old, new), two digests or none, and targets as (name, old
+    environment, new environment)."""
 
     splices: list[tuple]
     entries: list[tuple]
     digests: tuple | None
+    targets: list[tuple] = []
 
 
 def meets(requirement, entry, environment):
@@ -100,6 +102,8 @@ def is_minimal(change):
         return False
     if change.digests is not None and change.digests[0] == change.digests[1]:
         return False
+    if not is_rising([name for name, _, _ in change.targets]) or any(old == new for _, old, new in change.targets):
+        return False
     return all(place <= LARGEST for pair in places_of(change) for place in pair)
 
 
@@ -107,7 +111,8 @@ def inverse(change):
     places = [behind for _, behind in places_of(change)]
     splices = [(place, new, old) for place, (_, old, new) in zip(places, change.splices)]
     entries = [(target, name, new, old) for target, name, old, new in change.entries]
-    return Change(splices, entries, change.digests and change.digests[::-1])
+    targets = [(name, new, old) for name, old, new in change.targets]
+    return Change(splices, entries, change.digests and change.digests[::-1], targets)
 
 
 def with_entries(targets, changes):
@@ -120,6 +125,31 @@ def with_entries(targets, changes):
     return {name: Target(targets[name].environment, dict(sorted(entries.items()))) for name, entries in found.items()}
 
 
+def with_environments(targets, changes):
+    """The targets with other environments, among them those that come and those that go; None where an old environment isn't there."""
+    found = dict(targets)
+    for name, old, new in changes:
+        if (found[name].environment if name in found else None) != old:
+            return None
+        found[name] = Target(old if new is None else new, found[name].entries if name in found else {})
+    return found
+
+
+def without_gone(targets, changes):
+    """The targets without those that go; None where one of these has entries."""
+    gone = {name for name, _, new in changes if new is None}
+    if any(targets[name].entries for name in gone):
+        return None
+    return {name: targets[name] for name in sorted(targets) if name not in gone}
+
+
+def targets_after(targets, change):
+    """The targets behind a change; None where an old part of them isn't there, or one goes that has entries."""
+    found = with_environments(targets, change.targets)
+    found = None if found is None else with_entries(found, change.entries)
+    return None if found is None else without_gone(found, change.targets)
+
+
 def after(state, change):
     """The state that a change leads to; None where an old part of it isn't there."""
     lines, done = [], 0
@@ -128,7 +158,7 @@ def after(state, change):
             return None
         lines += state.lines[done:place] + new
         done = place + len(old)
-    targets = with_entries(state.targets, change.entries)
+    targets = targets_after(state.targets, change)
     if targets is None or change.digests is not None and change.digests[0] != state.digest:
         return None
     digest = state.digest if change.digests is None else change.digests[1]
