@@ -7,14 +7,15 @@ from functools import partial
 
 from reqlock_tools.names import tool
 
-FAILED, STOPPED = 1, 130
+FAILED, UNWRITTEN, STOPPED = 1, 5, 130
 # What the tools are written for. This module and `names` are read by older ones too, from 3.6 on, so that they can tell it.
 OLDEST = 3, 11
 
 
 def call(module: str) -> int:
     """The status of a tool. An output that nobody reads any more ends it without a word, one that can't be written is told, and so is
-    Ctrl-C."""
+    Ctrl-C. Where an answer couldn't be written rql has the program's status."""
+    unwritten = UNWRITTEN if module == "rql" else FAILED
     if sys.version_info < OLDEST:
         print(f"{tool(module)}: Python {OLDEST[0]}.{OLDEST[1]} or later is needed, and this is {sys.version.split()[0]}", file=sys.stderr)
         return FAILED
@@ -22,24 +23,33 @@ def call(module: str) -> int:
         sys.stderr = open(os.devnull, "w")  # (which is closed: nothing is told)
     if sys.stdout is None:
         say(module, "standard output: it is closed")
-        return FAILED
+        return unwritten
     try:
-        importlib.import_module("reqlock_tools.moved").tell_moved(module)
-        status: int = importlib.import_module(f"reqlock_tools.{module}").main(sys.argv[1:])
-        sys.stdout.flush()
+        return answered(module)
     except BrokenPipeError:
         forget_output()
-        return FAILED
+        return unwritten
     except OSError as fault:
         if fault.filename is not None:
             raise
         forget_output()
         say(module, f"standard output: {fault.strerror}")
-        return FAILED
+        return unwritten
     except KeyboardInterrupt:
         forget_output()
         say(module, "stopped")
         return STOPPED
+
+
+def answered(module: str) -> int:
+    """The status of a tool whose answer is written. Help is an answer too, behind which nothing comes."""
+    importlib.import_module("reqlock_tools.moved").tell_moved(module)
+    try:
+        status: int = importlib.import_module(f"reqlock_tools.{module}").main(sys.argv[1:])
+    except SystemExit:
+        sys.stdout.flush()
+        raise
+    sys.stdout.flush()
     return status
 
 

@@ -370,10 +370,10 @@ class Unwritten(Served):
         self.accepts("check", answer="ok 2\n")
 
     def test_of_its_own_prints(self):
-        self.begin()
-        self.assertEqual(self.shell("rql env list >/dev/full")[0], 1)
-        self.assertEqual(self.shell("rql env list >&-")[0], 1)
-        self.assertEqual(self.shell("rql --help >/dev/full")[0], 1)
+        self.begin("rich\n")
+        for words in "env list", "fleet . -- check", "fleet show rich", "--help":
+            for output in ">/dev/full", ">&-":
+                self.assertEqual(self.shell(f"PYTHONUNBUFFERED= rql {words} {output}")[0], 5, words)
         self.assertEqual(self.shell("rql env list | true")[0], 0)
 
     def test_of_errors(self):
