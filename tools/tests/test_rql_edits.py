@@ -238,6 +238,13 @@ class Edits(Served):
         self.accepts("add", "rich", answer="ok 1\n")
         self.assertIn("rich  1  ", self.rql("show")[1])
         self.assertEqual(json.loads(self.kept())["made"]["constraints"][0]["file"], "bounds.txt")
+        for data, fault in (None, "No such file or directory"), ("rich<<2\n", "'rich<<2': its versions can't be read"):
+            (self.folder / "bounds.txt").unlink() if data is None else self.put("bounds.txt", data)
+            fault = f"bounds.txt: {fault}"
+            self.assertIn(fault, self.refuses("add", "flask"))
+            status, output, errors = self.rql("check")
+            self.assertEqual((status, output), (1, "ok 1\n"))
+            self.assertIn(f"{fault}: without it no edit is made: write it, or take bounds.txt out of the constraints\n", errors)
 
     def test_the_call_that_is_told_can_be_typed(self):
         self.begin("")

@@ -1,7 +1,7 @@
 """`rql check`: sources, settings and exports against lines, targets and locks first, then what the program checks."""
 
 from reqlock_tools.merge_sides import Journal
-from reqlock_tools.refusal import speaker
+from reqlock_tools.refusal import Refusal, fault_text, speaker
 from reqlock_tools.rql.calls import Caller, typed_path
 from reqlock_tools.rql.environments import are_alike, environments, label_of
 from reqlock_tools.rql.exports import stale_exports
@@ -18,7 +18,7 @@ say = speaker("rql")
 def run_check(project: Project, request: CheckRequest) -> int:
     """The program's status; or 1 where settings, sources or exports differ and the program finds nothing."""
     exports = stale_exports(project, Kept(project), Caller(project.options))
-    differences = [*target_differences(project), *source_differences(project), *exports]
+    differences = [*target_differences(project), *source_differences(project), *constraint_faults(project), *exports]
     for text in differences:
         say(text)
     words = [*["--json"] * request.is_json, *["--current"] * request.is_current]
@@ -69,3 +69,19 @@ def source_differences(project: Project) -> list[str]:
     path = project.folder / REQUIREMENTS
     differing = differences(gathered(project.top, project.base, project.settings.sources), content(path), typed_path(path))
     return [*differing, "sources and lines came apart: rql lock takes the sources over"] if differing else []
+
+
+def constraint_faults(project: Project) -> list[str]:
+    """Which files of constraints don't read. With one of them no edit is made."""
+    if not (project.settings.constraints or project.settings.sources):
+        return []
+    from reqlock_tools.rql.index import constraint_files
+    from reqlock_tools.simple.bounds import read_constraints
+
+    faults = []
+    for text, path in constraint_files(project):
+        try:
+            read_constraints(str(path), lambda passed_over: None)
+        except (Refusal, OSError) as fault:
+            faults.append(f"{fault_text(fault)}: without it no edit is made: write it, or take {text} out of the constraints")
+    return faults
