@@ -165,14 +165,19 @@ class Versions(Begun):
     def test_a_lock_that_stands_there(self):
         """What is advised of it leads on."""
         lock = self.put("pylock.windows.toml", (self.folder / "pylock.toml").read_text(encoding="utf-8"))
-        self.assertIn("remove it, or lock for it too by rql env add windows\n", self.accepts("check"))
-        before = self.files()
-        status, _, errors = self.types("rql -v env add windows")
-        self.assertEqual(status, 5)
-        self.assertIn("move it elsewhere and hand its versions in by --pins windows=FILE\n", errors)
-        self.assertEqual(self.files(), before)
+        way = "move it elsewhere and lock for it too by rql env add windows --pins windows=FILE"
+        self.assertIn(f"remove it, or {way}\n", self.accepts("check"))
+        for data in b"no TOML [", b"\xff", lock.read_bytes():
+            lock.write_bytes(data)
+            before = self.files()
+            status, _, errors = self.types("rql -v env add windows")
+            self.assertEqual(status, 5, errors)
+            self.assertIn("move it elsewhere and hand its versions in by --pins windows=FILE\n", errors)
+            self.assertEqual(self.files(), before)
+            self.accepts("upgrade", "rich", "--dry-run")
         lock.rename(self.outside / "old.toml")
-        self.accepts("env", "add", "windows", "--pins", f"windows={self.outside / 'old.toml'}", answer="ok 1\n")
+        status, output, _ = self.types(way.partition(" by ")[2].replace("FILE", str(self.outside / "old.toml")))
+        self.assertEqual((status, output), (0, "ok 1\n"))
 
 
 @LIBRARY

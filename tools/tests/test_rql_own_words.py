@@ -142,7 +142,8 @@ class Texts(unittest.TestCase):
     def test_a_lock_of_no_target(self):
         told = "reqlock: pylock.win.toml is of no target of this history, and no edit changes it: remove it"
         way = f"{told}, or lock for it too by"
-        self.assertEqual(in_own_words(f"{way} init --env win=FILE\n", Here(start="a b")), f"{way} rql -C 'a b' env add win\n")
+        wanted = f"{told}, or move it elsewhere and lock for it too by rql -C 'a b' env add win --pins win=FILE\n"
+        self.assertEqual(in_own_words(f"{way} init --env win=FILE\n", Here(start="a b")), wanted)
         self.assertEqual(in_own_words(f"{told}\nline 1: {told}\n", Here()), f"{told}\nline 1: {told}\n")
 
     def test_colours(self):

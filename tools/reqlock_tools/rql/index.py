@@ -84,8 +84,15 @@ def addresses(project: Project) -> tuple["IndexAddress", ...]:
 
 
 def locks_of(project: Project) -> list[Path]:
-    """The locks that stand there."""
-    return sorted(path for path in project.folder.glob("pylock*.toml") if path.is_file() and not path.is_symlink())
+    """The locks of the history; none where there is none, or its journal doesn't read, of which the program tells."""
+    from reqlock_tools.rql.history import journal_of
+
+    try:
+        journal = journal_of(project)
+    except Refusal:
+        return []
+    paths = [project.lock_path(target) for target in sorted(journal.locks)] if journal else []
+    return [path for path in paths if path.is_file() and not path.is_symlink()]
 
 
 def remembered(kept: Kept) -> tuple[str, ...]:

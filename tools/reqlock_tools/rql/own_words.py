@@ -48,7 +48,7 @@ LACKED = re.compile(spaced(r"(?m)^the index has no release of (\S+)(?:; near nam
 LACKS = re.compile(spaced(r"(?m)the snapshot has no packages? \S"))
 TAKEN_IN = re.compile(spaced(r"(?m)^Where the package index has (?:it|them), the same edit by rql takes (?:it|them) in\.\n"))
 # What `check` says of a lock that is of no target.
-STRAY = re.compile(r"(?m)^(reqlock: pylock\.[^\n]*: remove it, or lock for it too by )init --env ([a-z][a-z0-9-]*)=FILE$")
+STRAY = re.compile(r"(?m)^(reqlock: pylock\.[^\n]*: remove it, or )(lock for it too by )init --env ([a-z][a-z0-9-]*)=FILE$")
 CALLS = LINE, QUESTION, QUOTED, MERGING
 KNOWN = {re.compile(rf"(?m)^{'[ ]'.join(map(re.escape, old.split(' ')))}$".replace("[ ]", "[ \n]")): new for old, new in SENTENCES.items()}
 
@@ -60,7 +60,13 @@ def in_own_words(text: str, here: Here, width: int | None = None) -> str:
         text = pattern.sub(wrapped(sentence, width), text)
     for pattern in CALLS:
         text = pattern.sub(lambda occurrence: own(occurrence, here), text)
-    return STRAY.sub(lambda stray: f"{stray[1]}{shlex.join(front(here.start))} env add {stray[2]}", text)
+    return STRAY.sub(lambda stray: locked_too(stray, here), text)
+
+
+def locked_too(stray: "re.Match[str]", here: Here) -> str:
+    """What `check` tells of a lock that is of no target. It stands in the place of that of a target that comes."""
+    before, way, target = stray.groups()
+    return f"{before}move it elsewhere and {way}{shlex.join(front(here.start))} env add {target} --pins {target}=FILE"
 
 
 def own(occurrence: "re.Match[str]", here: Here) -> str:
