@@ -31,7 +31,7 @@ from reqlock_tools.merge_git import Checkout
 from reqlock_tools.merge_pins import told_pins, versions_in
 from reqlock_tools.merge_place import put
 from reqlock_tools.merge_sides import (
-    FOLDER, JOURNAL, REQUIREMENTS, Journal, SavedFile, Side, are_of_one_history, digest_of, lock_name, read_journal, read_side, saved,
+    FOLDER, JOURNAL, REQUIREMENTS, Journal, SavedFile, Side, are_of_one_history, counterparts, digest_of, lock_name, read_journal, read_side, saved,
 )
 from reqlock_tools.names import called, tool
 from reqlock_tools.program import program_path
@@ -151,7 +151,7 @@ def refuse_others(one: Side, other: Side | None) -> None:
     if one.journal.environments != other.journal.environments:
         here, there = (", ".join(name or "the one without a name" for name in side.journal.locks) for side in (one, other))
         kind = "other environments under the same names" if here == there else f"{there}; here: {here}"
-        raise Refusal(f"{THEIRS} locks for other targets ({kind}); {choice()}. Its pins count for targets of the same name")
+        raise Refusal(f"{THEIRS} locks for other targets ({kind}); {choice()}. Its pins count for targets of the same name or environment")
     if not are_of_one_history(one, other):
         raise Refusal(f"{THEIRS} began another history, by reqlock init or forget; {choice()}")
 
@@ -198,11 +198,10 @@ class Trial:
     def pins(self, one: Side, other: Side | None) -> list[str]:
         """The options for the locks of the other side."""
         words: list[str] = []
-        for target, data in (other.locks if other else {}).items():
-            if target in one.locks and data is not None:
-                path = self.others / lock_name(target)
-                path.write_bytes(data)
-                words += ["--pins", f"{target}={path}"]
+        for target, data in counterparts(one, other).items():
+            path = self.others / lock_name(target)
+            path.write_bytes(data)
+            words += ["--pins", f"{target}={path}"]
         return words
 
     def replace(self, pins: list[str]) -> tuple[int, str]:
@@ -220,11 +219,20 @@ def told_result(trial: Trial, one: Side, other: Side | None, files: dict[str, by
     """What is printed behind the reply: where the pins came from, or what was changed."""
     if other is None:
         return answered(trial.options, ["--dir", str(trial.made), "diff"])[1].splitlines() if reply.startswith("ok") else []
-    lines: list[str] = []
+    lines, there = list[str](), counterparts(one, other)
     for target, lock in one.locks.items():
-        versions = [versions_in(data) for data in (lock, other.locks.get(target), files[lock_name(target)])]
+        versions = [versions_in(data) for data in (lock, there.get(target), files[lock_name(target)])]
         lines += told_pins(target, *versions)
     return lines
+
+
+def gone_locks(folder: MergedFolder, one: Side, other: Side | None) -> list[str]:
+    """The locks of the other side alone, where git put them there. What somebody wrote in their places since stays."""
+    targets = other.locks.keys() - one.locks.keys() if other else ()
+    names = [lock_name(target) for target in sorted(targets) if not os.path.islink(folder.path / lock_name(target))]
+    unmerged = folder.checkout.unmerged(names) if names else set()
+    known = [data for side in (one, other) if side for data in side.locks.values() if data is not None]
+    return [name for name in names if name in unmerged or folder.read(name) in known]
 
 
 # What to type where nothing fits
@@ -257,8 +265,8 @@ def lock(folder: MergedFolder, one: Side, other: Side | None, place: Path) -> in
     files = trial.files(one)
     lines = told_result(trial, one, other, files, reply)
     if not options.dry_run:
-        others = {name: data for name, data in files.items() if folder.read(name) != data}
-        put(options.dir, others, lambda: folder.checkout.stage(files))
+        others, gone = {name: data for name, data in files.items() if folder.read(name) != data}, gone_locks(folder, one, other)
+        put(options.dir, others, gone, lambda: folder.checkout.stage(files, gone))
     print(reply, *(f"{line}\n" for line in lines), sep="", end="")
     return DONE
 

@@ -114,14 +114,16 @@ class Checkout:
         commits = self.call("log", "-z", "--format=%H", f"--max-count={MOST_COMMITS}", "HEAD", "--", name).split(b"\0")
         return [f"{commit.decode().strip()}:./{name}" for commit in commits if commit.strip()]
 
-    def stage(self, files: dict[str, bytes]) -> None:
-        """Puts files into the index as they are to stand in the folder."""
+    def stage(self, files: dict[str, bytes], gone: list[str]) -> None:
+        """Puts files into the index as they are to stand in the folder, and takes out those that go."""
         prefix = self.call("rev-parse", "--show-prefix").removesuffix(b"\n")
         rows = b""
         for name, data in files.items():
             digest = self.call("hash-object", "-w", "--stdin", f"--path={name}", data=data).strip()
             rows += b"%s %s\t%s%s\0" % (self.mode(name), digest, prefix, name.encode())
         self.call("update-index", "-z", "--add", "--index-info", data=rows)
+        if gone:
+            self.call("update-index", "--force-remove", "--", *gone)
 
     def mode(self, name: str) -> bytes:
         """The mode that the index has for a file, or that of a file in general."""

@@ -4,7 +4,7 @@ import contextlib
 import os
 import shutil
 import signal
-from collections.abc import Callable
+from collections.abc import Callable, Iterable
 
 
 def ignore_stops() -> None:
@@ -25,8 +25,9 @@ def write_beside(path: str, data: bytes) -> None:
         os.fsync(file.fileno())
 
 
-def put(folder: str, files: dict[str, bytes], stage: Callable[[], None]) -> None:
-    """Puts files into a folder in their order, once all are written and staged. A fault before that changes nothing."""
+def put(folder: str, files: dict[str, bytes], gone: Iterable[str], stage: Callable[[], None]) -> None:
+    """Puts files into a folder in their order, once all are written and staged, and removes those that go. A fault before that changes
+    nothing."""
     paths = {os.path.join(folder, name): data for name, data in files.items()}
     ignore_stops()
     try:
@@ -40,3 +41,6 @@ def put(folder: str, files: dict[str, bytes], stage: Callable[[], None]) -> None
         raise
     for path in paths:
         os.replace(f"{path}.new", path)
+    for name in gone:
+        with contextlib.suppress(OSError):
+            os.unlink(os.path.join(folder, name))

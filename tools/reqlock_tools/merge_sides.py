@@ -155,3 +155,13 @@ def are_of_one_history(one: Side, other: Side) -> bool:
         return one.journal.first_lines(one.old.data) == other.journal.first_lines(other.old.data)
     except (KeyError, TypeError, ValueError, AttributeError, RecursionError):
         return False
+
+
+def counterparts(one: Side, other: Side | None) -> dict[str, bytes]:
+    """The locks of the other side by the targets of this one: that of the same name, or else of a target that is for the same environment."""
+    if other is None:
+        return {}
+    there = other.journal.environments
+    alike = {target: next((name for name in there if there[name] == told), target) for target, told in one.journal.environments.items()}
+    locks = {target: other.locks.get(target if target in there else alike[target]) for target in one.locks}
+    return {target: data for target, data in locks.items() if data is not None}
