@@ -261,7 +261,8 @@ class Refused(Begun):
             self.assertIn(fault, self.refuses("env", *words))
         self.assertEqual(self.files(), before)
         self.accepts("env", "add", "windows")
-        self.assertIn("a name is wanted: linux, windows\n", self.refuses("env", "set", "--python", "3.12"))
+        several = "a name is wanted: linux, windows; for several in one step, change the settings, and then: rql retarget\n"
+        self.assertIn(several, self.refuses("env", "set", "--python", "3.12"))
         for words in ("set", "widows", "--python", "3.12"), ("remove", "widows"):
             self.assertIn("'widows' isn't among them; did you mean windows: rql env list prints them\n", self.refuses("env", *words))
 
@@ -306,6 +307,24 @@ class Refused(Begun):
         self.assertEqual(self.types("rql lock")[:2], (0, "ok 1\n"))
         self.accepts("env", "add", "windows", answer="ok 2\n")
 
+    def test_lines_that_need_the_new_environment(self):
+        """What is advised leads to a lock of both."""
+        self.serve(new=[wheel_of("new", "1", python=">=3.12")])
+        old, new = self.lines(), self.put("requirements.txt", "rich<2\nnew\n")
+        self.assertNotIn("retarget", self.rql("lock")[2])
+        self.settings.write_text(self.settings.read_text(encoding="utf-8").replace("3.11", "3.12"), encoding="utf-8")
+        status, output, errors = self.rql("lock")
+        self.assertEqual((status, output), (3, "refused no-solution\n"))
+        self.assertIn("is locked for: rql retarget\n", errors)
+        self.assertIn("put back those that were saved last (.reqlock/requirements.txt has them), type rql retarget, and then", errors)
+        wanted = new.read_bytes()
+        new.write_bytes((self.folder / ".reqlock" / "requirements.txt").read_bytes())
+        self.assertEqual(self.lines(), old)
+        self.accepts("retarget", answer="ok 1\n")
+        new.write_bytes(wanted)
+        self.accepts("lock", answer="ok 2\n")
+        self.assertEqual(self.accepts("check", answer="ok 2\n"), "")
+
 
 class Words(Begun):
     def test_that_are_mistyped_or_of_others(self):
@@ -316,6 +335,9 @@ class Words(Begun):
             (["env", "add", "windows", "--anew"], "it doesn't take --anew: the history goes on, and rql undo takes the change back"),
             (["retargt"], "there is no command 'retargt': rql retarget?"), (["retarget", "--env", "x=y"], "what is locked for stands in the settings"),
             (["retarget", "windows"], "it doesn't take windows: what is locked for stands in the settings"),
+            (["env", "add", "linux", "windows"], "it doesn't take windows: add, set and remove take one name"),
+            (["env", "set", "--name", "linux"], "it doesn't take --name: add, set and remove take one name"),
+            (["env", "add", "windows", "--env", "w.json"], "--python VERSION and --platform NAME say what is locked for"),
             (["python", "3.12"], "rql env set --python VERSION locks for another Python"), (["targets"], "rql env list prints what is locked for"),
         ):
             with self.subTest(words=words):

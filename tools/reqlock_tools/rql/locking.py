@@ -13,7 +13,8 @@ from reqlock_tools.merge_git import Checkout, Sides
 from reqlock_tools.merge_sides import Journal, digest_of, lock_name, read_side, saved
 from reqlock_tools.refusal import Refusal, speaker
 from reqlock_tools.rql.calls import Caller, hand_on_errors, tell_call, typed_path
-from reqlock_tools.rql.edits import accepted
+from reqlock_tools.rql.checking import target_differences
+from reqlock_tools.rql.edits import UNSOLVED, accepted
 from reqlock_tools.rql.exports import stale_exports, write_exports
 from reqlock_tools.rql.faults import FOUND, SettingsFault
 from reqlock_tools.rql.history import Saving, content, is_whole, wanted_journal
@@ -114,7 +115,18 @@ class Locking:
         status = self.caller.hand_over(*place, "replace", *words)
         if saving.is_done(status):
             accepted(self.project, self.kept, self.caller, index)
+        if status == UNSOLVED:
+            self.tell_other_environments()
         return status
+
+    def tell_other_environments(self) -> None:
+        """Tells where the settings have other environments, for which the lines may have a solution."""
+        differences = target_differences(self.project)
+        for text in differences:
+            say(text)
+        if differences:
+            lines = f"those that were saved last ({typed_path(self.kept.saved)} has them)"
+            say(f"these lines have no lock for what is locked for now: put back {lines}, type rql retarget, and then rql lock with these")
 
     def saved_lines(self, journal: Journal) -> bytes:
         """The lines that were saved with the journal: rql keeps them, or git has them."""

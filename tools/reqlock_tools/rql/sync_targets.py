@@ -130,7 +130,7 @@ def no_target(targets: list[Target], told: Mapping[str, object]) -> str:
     """What is told where no lock is for an environment."""
     lines = [f"no lock is for {label_of(told)}:"]
     lines += [f"  {target.label()} is for {', '.join(target.differences(told))}" for target in targets]
-    version = told["python_version"]
+    version, name = told["python_version"], "NAME " if any(target.name for target in targets) else ""
     more = f"rql env add NAME --python {version} --platform PLATFORM locks for it too"
-    lines.append(f"{more}, rql env set --python {version} in the place of another Python, or --venv DIR names another one")
+    lines.append(f"{more}, rql env set {name}--python {version} in the place of another Python, or --venv DIR names another one")
     return "\n".join(lines)

@@ -89,7 +89,8 @@ def changed(settings: Settings, request: EnvRequest) -> tuple[EnvironmentSetting
     present = settings.environments or (EnvironmentSetting("", own_python(), own_platform()),)
     name = request.name if request.name is not None else present[0].name
     if request.name is None and len(present) > 1:
-        raise SettingsFault(f"rql env set: a name is wanted: {', '.join(environment.name for environment in present)}")
+        names = ", ".join(environment.name for environment in present)
+        raise SettingsFault(f"rql env set: a name is wanted: {names}; for several in one step, change the settings, and then: rql retarget")
     if name and not present[0].name:
         raise SettingsFault(f"rql env set {name}: the only environment has no name, so it is meant where none is typed: leave {name} out")
     refuse_absent(settings, present, name)

@@ -12,6 +12,7 @@ SYNCED = "rql sync installs what is locked, and changes no lock; what is locked 
 ANOTHER = "rql env set --python VERSION locks for another Python"
 LISTED = "rql env list prints what is locked for, and rql env add, set and remove change it"
 OF_SETTINGS = "what is locked for stands in the settings, where rql env add, set and remove change it"
+NAMED = "add, set and remove take one name, without an option in front; list takes none"
 # What does the work of a word behind `env` of another tool, or of an older rql.
 KINDS = {
     **dict.fromkeys(("lock", "retarget", "update", "sync"), "rql retarget locks for the environments of the settings"),
@@ -46,7 +47,10 @@ OPTIONS = {
     "check": {"--fix": "rql lock has the lock fit the lines again"},
     "sync": dict.fromkeys(("--frozen", "--locked", "--dev", "--no-dev", "--group", "--no-group", "--extra", "--all-extras", "--only"), SYNCED),
     "retarget": dict.fromkeys(("--env", "--python", "--platform", ""), OF_SETTINGS),
-    "env": {"--anew": "the history goes on, and rql undo takes the change back: it is left out"},
+    "env": {
+        "--anew": "the history goes on, and rql undo takes the change back: it is left out", "--name": NAMED, "": NAMED,
+        **dict.fromkeys(("--env", "--index"), "--python VERSION and --platform NAME say what is locked for; the settings have the index"),
+    },
     "init": dict.fromkeys(("--index-url", "-i", "--extra-index-url"), "--index URL, several times where there are several, in order"),
 }
 
