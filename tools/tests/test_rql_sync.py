@@ -280,7 +280,10 @@ class Targets(Synced):
         self.refuses(
             rf"^no lock is for cpython {version} on linux \S+:\n  target old is for Python 3.7 and not {version}\n"
             rf"  target windows is for platform win32 and not linux\nrql env add NAME --python {version} --platform PLATFORM locks for it"
+            rf" too, rql env set NAME --python {version} in the place of another Python, or "
         )
+        self.lock({}, environment=older)
+        self.refuses(rf"locks for it too, rql env set --python {version} in the place of another Python, or ")
 
     def test_of_two_that_fit_one_is_named(self):
         entries = {"a": locked_entry(self.index, "a", "2", self.files["a", "2"])}
