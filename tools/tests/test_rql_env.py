@@ -4,6 +4,7 @@ import importlib.util
 import os
 import subprocess
 import unittest
+import unittest.mock
 
 from support.made.served_index import wheel_of
 from support.rql_projects import ENVIRONMENT, Served
@@ -124,6 +125,17 @@ class Steps(Begun):
         for words in ("env", "add", "windows"), ("env", "set", "--python", "3.12"), ("retarget",):
             self.accepts(*words, "--dry-run")
             self.assertEqual(self.files(), before)
+
+    def test_settings_that_cannot_be_written(self):
+        """What is advised then leads back."""
+        before = self.settings.read_bytes()
+        with unittest.mock.patch("reqlock_tools.rql.targets.write_whole", side_effect=OSError(28, "No space left on device", "reqlock.toml")):
+            errors = self.refuses("env", "set", "--python", "3.12")
+        self.assertIn("reqlock.toml: No space left on device: it is locked for the new environments, and the settings have the old ones: rql undo", errors)
+        self.assertIn('have them be environment = { python = "3.12", platform = "linux-x86_64" }\n', errors)
+        self.accepts("undo", answer="ok 0\n")
+        self.assertEqual(self.accepts("check", answer="ok 0\n"), "")
+        self.assertEqual(self.settings.read_bytes(), before)
 
     def test_before_there_is_a_history(self):
         for name in "reqlock.journal", "pylock.toml":

@@ -6,6 +6,7 @@ from difflib import get_close_matches
 
 from reqlock_tools.environment import PLATFORMS
 from reqlock_tools.files import write_whole
+from reqlock_tools.refusal import fault_text
 from reqlock_tools.rql.defaults import family_name, own_platform, own_python, refuse_platform, refuse_python
 from reqlock_tools.rql.edits import edited
 from reqlock_tools.rql.environments import described, environments, label_of, place_of
@@ -15,7 +16,7 @@ from reqlock_tools.rql.kept import MODE, Kept
 from reqlock_tools.rql.project import Project, project_of
 from reqlock_tools.rql.requests import EnvRequest
 from reqlock_tools.rql.settings import TARGET, EnvironmentSetting, ExportSetting, Settings
-from reqlock_tools.rql.settings_edit import checked, with_environments
+from reqlock_tools.rql.settings_edit import checked, told_text, with_environments
 
 
 def run_env(project: Project, request: EnvRequest) -> int:
@@ -55,7 +56,7 @@ class Change:
         if journal_of(self.project) is not None:
             status = edited(project, Kept(project), self.request.retarget, is_pending=True)
         if saving.is_done(status) and not self.request.retarget.is_dry:
-            write_whole(str(settings.file), text, MODE)
+            write_settings(settings, text)
         return status
 
     def changed(self) -> tuple[EnvironmentSetting, ...]:
@@ -68,6 +69,15 @@ class Change:
         if request.word == "remove":
             return removed(before, request.name or "")
         return added(before, request, request.name or "") if request.word == "add" else changed(before, request)
+
+
+def write_settings(settings: Settings, text: bytes) -> None:
+    """Writes settings whose environments are locked for already."""
+    try:
+        write_whole(str(settings.file), text, MODE)
+    except OSError as fault:
+        told = f"it is locked for the new environments, and the settings have the old ones: rql undo, or have them be {told_text(settings)}"
+        raise SettingsFault(f"{fault_text(fault)}: {told}") from None
 
 
 def added(settings: Settings, request: EnvRequest, name: str) -> tuple[EnvironmentSetting, ...]:
