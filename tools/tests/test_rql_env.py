@@ -167,12 +167,18 @@ class Versions(Begun):
         self.assertEqual(self.versions(), ["1", "2"])
 
     def test_of_pins_that_the_settings_leave_out(self):
+        """What a shell hands over can be read only once."""
         self.in_front("newest = 1\n")
         self.serve(rich=[wheel_of("rich", "1.5")])
         self.accepts("constrain", "rich")
         self.put("pins.txt", "rich==1.5\n")
-        self.accepts("env", "add", "windows", "--pins", "windows=pins.txt", answer="ok 2\n")
-        self.assertEqual(self.versions(), ["1", "1.5"])
+        for pins in "windows=pins.txt", "windows=/dev/stdin", "-", "windows=/dev/fd/9 9<&0":
+            self.assertEqual(self.types(f"cat pins.txt | rql env add windows --pins {pins}")[:2], (0, "ok 2\n"))
+            self.assertEqual(self.versions(), ["1", "1.5"])
+            self.accepts("undo")
+        self.assertEqual(self.types("rql env add windows --pins /dev/fd/99")[0], 2)
+        asked = self.types("cat pins.txt | rql why --init --pins /dev/fd/9 9<&0")
+        self.assertEqual(asked[:2], (0, "solvable\n"), asked)
 
     def test_a_lock_that_stands_there(self):
         """What is advised of it leads on."""
@@ -213,6 +219,22 @@ class Exports(Begun):
         self.accepts("env", "add", "windows")
         self.assertNotIn("target", self.settings.read_text(encoding="utf-8"))
         self.assertIn('name = "rich"', (self.folder / "out.toml").read_text(encoding="utf-8"))
+
+    def test_a_lock_that_no_file_can_be(self):
+        """What is advised leads on."""
+        self.in_front('exports = [{ file = "out.toml", format = "pylock" }]\n')
+        self.accepts("constrain", "rich")
+        pins = self.put("pins.txt", "rich==2\n")
+        self.accepts("env", "add", "windows", "--pins", f"windows={pins}", answer="ok 2\n")
+        status, _, errors = self.rql("check")
+        self.assertEqual(status, 1)
+        self.assertIn("rich differs; upgrade it in all of them, or have exports in the settings name a target\n", errors)
+        self.accepts("upgrade", "rich")
+        self.assertEqual(self.accepts("check"), "")
+        self.accepts("undo")
+        self.settings.write_text(self.settings.read_text(encoding="utf-8").replace('"pylock"', '"pylock", target = "windows"'), encoding="utf-8")
+        self.accepts("lock")
+        self.assertEqual(self.accepts("check"), "")
 
     def test_one_of_a_target_that_an_undo_takes(self):
         self.accepts("env", "add", "windows")

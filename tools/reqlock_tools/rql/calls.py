@@ -101,7 +101,8 @@ class Caller:
         sys.stdout.flush()
         told = Told()
         try:
-            done = subprocess.Popen(command, stderr=told.theirs)
+            # (a file that a shell hands over, as by <(..), is the call's too)
+            done = subprocess.Popen(command, stderr=told.theirs, close_fds=False)
         except OSError as fault:
             raise self.absent(fault) from None
         told.begin()

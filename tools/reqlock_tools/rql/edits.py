@@ -10,6 +10,7 @@ from dataclasses import replace
 from pathlib import Path
 
 from reqlock_tools.refusal import Refusal, speaker
+from reqlock_tools.regular_file import HANDED_OVER, read_bytes
 from reqlock_tools.rql.calls import Caller, typed_path
 from reqlock_tools.rql.exports import write_exports
 from reqlock_tools.rql.history import Saving, tell_changed
@@ -60,7 +61,8 @@ class Edit:
     """An edit of a project, with what it calls."""
 
     def __init__(self, project: Project, kept: Kept, request: EditRequest, is_pending: bool = False) -> None:
-        self.project, self.kept, self.request, self.is_pending = project, kept, request, is_pending
+        self.project, self.kept, self.is_pending = project, kept, is_pending
+        self.request = replace(request, pins=tuple(handed_over(kept, pins, number) for number, pins in enumerate(request.pins)))
         self.caller = Caller(project.options)
         self.index = self.fresh_index()
         self.caller.lacking = self.lacking
@@ -167,6 +169,15 @@ class Edit:
         """The call that tells why one of several texts is refused."""
         words = ["why", "--explain"] if is_unsolved and self.request.word == "add" else ["-v", self.request.word, "--dry-run"]
         return shlex.join([*front(self.project.options.start), *words, text])
+
+
+def handed_over(kept: Kept, pins: str, number: int) -> str:
+    """A file of pins, as FILE or NAME=FILE. One that a shell hands over can be read only once, so it is kept."""
+    name, sign, file = pins.rpartition("=")
+    if file != "-" and not file.startswith(HANDED_OVER):
+        return pins
+    data = sys.stdin.buffer.read() if file == "-" else read_bytes(file)
+    return f"{name}{sign}{typed_path(kept.write(f'pins.{number}.txt', data))}"
 
 
 def pinned_in(files: Sequence[str]) -> tuple[str, ...]:

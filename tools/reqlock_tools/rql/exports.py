@@ -15,7 +15,7 @@ from reqlock_tools.rql.settings import ExportSetting
 
 FIRST_LINE = b"# Exported by rql. What is changed here is lost with its next call.\n"
 # What the program tells of targets that no file can have together.
-APART = re.compile(rb"(?m)^(?:error|reqlock): (the targets [^\n]* can't stand in one file: [^\n]*)$")
+APART = re.compile(rb"(?m)^(?:error|reqlock): (the targets [^\n]* can't stand in one file: [^\n]*?)(, or export one by [^\n]*)?$")
 GONE = "the index of this lock is gone: rql relock makes it anew"
 
 say = speaker("rql")
@@ -36,7 +36,7 @@ def exported(project: Project, kept: Kept, caller: Caller, export: ExportSetting
             caller.tell([caller.program, *words])
             return FIRST_LINE + answer.output
         if found := APART.search(answer.errors):
-            return found[1].decode(errors="replace")
+            return found[1].decode(errors="replace") + ", or have exports in the settings name a target" * bool(found[2])
     return GONE
 
 

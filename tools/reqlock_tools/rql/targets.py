@@ -14,7 +14,7 @@ from reqlock_tools.rql.faults import SettingsFault
 from reqlock_tools.rql.history import Saving, journal_of
 from reqlock_tools.rql.kept import MODE, Kept
 from reqlock_tools.rql.project import Project, project_of
-from reqlock_tools.rql.requests import EnvRequest
+from reqlock_tools.rql.requests import EditRequest, EnvRequest
 from reqlock_tools.rql.settings import TARGET, EnvironmentSetting, ExportSetting, Settings
 from reqlock_tools.rql.settings_edit import checked, told_text, with_environments
 
@@ -54,10 +54,17 @@ class Change:
         project = project_of(settings, self.project.options)
         saving, status = Saving(project), 0
         if journal_of(self.project) is not None:
-            status = edited(project, Kept(project), self.request.retarget, is_pending=True)
+            status = edited(project, Kept(project), self.retarget(), is_pending=True)
         if saving.is_done(status) and not self.request.retarget.is_dry:
             write_settings(settings, text)
         return status
+
+    def retarget(self) -> EditRequest:
+        """The edit that has the history follow. Pins are of the target that comes, and not of one that gets a name beside it."""
+        request = self.request
+        if request.word != "add":
+            return request.retarget
+        return replace(request.retarget, pins=tuple(pins if "=" in pins else f"{request.name}={pins}" for pins in request.retarget.pins))
 
     def changed(self) -> tuple[EnvironmentSetting, ...]:
         """The environments that there are to be."""
