@@ -11,6 +11,7 @@ from reqlock_tools.rql.kept import Kept
 from reqlock_tools.rql.project import REQUIREMENTS, Project
 from reqlock_tools.rql.requests import CheckRequest
 from reqlock_tools.rql.settings import Settings
+from reqlock_tools.rql.stopped import tell_stopped
 
 say = speaker("rql")
 
@@ -23,6 +24,7 @@ def run_check(project: Project, request: CheckRequest) -> int:
         say(text)
     words = [*["--json"] * request.is_json, *["--current"] * request.is_current]
     status = checked(project, request, words)
+    tell_stopped(project, status)
     return status or (FOUND if differences else 0)
 
 

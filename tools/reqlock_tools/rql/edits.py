@@ -20,6 +20,7 @@ from reqlock_tools.rql.lacking import lacking, names_of, tell_lacking
 from reqlock_tools.rql.own_calls import front
 from reqlock_tools.rql.project import JOURNAL, REQUIREMENTS, Project
 from reqlock_tools.rql.requests import EditRequest
+from reqlock_tools.rql.stopped import BAD_INPUT, tell_stopped
 from reqlock_tools.rql.telling import is_told, telling
 from reqlock_tools.rql.texts import is_url
 
@@ -29,8 +30,6 @@ OF_LINES = "add", "remove", "set"
 ASKING = "upgrade", "relock"
 # The program's status where nothing can be locked.
 UNSOLVED = 3
-# The program's status where its files don't read, or don't belong together.
-BAD_INPUT = 4
 NO_SOLUTION = b"refused no-solution"
 
 say = speaker("rql")
@@ -52,6 +51,7 @@ def edited(project: Project, kept: Kept, request: EditRequest, is_pending: bool 
             return edit_sources(project, kept, request)
         sources_of(project)  # (which refuses those that came apart from the lines)
     status = Edit(project, kept, request, is_pending).run()
+    tell_stopped(project, status)
     if status == BAD_INPUT and is_told(project.options):
         tell_changed(project)
     return status

@@ -26,6 +26,7 @@ from reqlock_tools.rql.project import REQUIREMENTS, Project, project_of, setting
 from reqlock_tools.rql.requests import InitRequest, Options
 from reqlock_tools.rql.settings import OWN_FILE, PROJECT_FILE, EnvironmentSetting, ExportSetting, settings_of
 from reqlock_tools.rql.settings_text import settings_text
+from reqlock_tools.rql.stopped import end_save
 from reqlock_tools.rql.telling import telling
 from reqlock_tools.toml import read_toml
 
@@ -110,6 +111,7 @@ class Beginning:
             self.is_made.append(kept.folder)
         try:
             with kept.locked():
+                end_save(self.project, kept, self.caller)
                 journal = journal_of(self.project)
                 status = self.begin(kept) if journal is None or self.is_lost(journal) else self.go_on(kept)
         except BaseException:

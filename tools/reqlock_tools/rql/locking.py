@@ -22,6 +22,7 @@ from reqlock_tools.rql.index import Wanted, made_index, requirements_in
 from reqlock_tools.rql.kept import MODE, Kept
 from reqlock_tools.rql.project import JOURNAL, REQUIREMENTS, Project
 from reqlock_tools.rql.requests import LockRequest
+from reqlock_tools.rql.stopped import end_save, tell_stopped
 from reqlock_tools.rql.told import in_words_of_rql
 
 say = speaker("rql")
@@ -73,6 +74,8 @@ class Locking:
         sides = self.checkout.sides([REQUIREMENTS, JOURNAL]) if self.checkout else None
         if self.checkout is not None and sides is not None:
             return self.check_merge(self.checkout) if self.request.is_check else self.merge(sides, lines)
+        if not self.request.is_check:
+            end_save(self.project, self.kept, self.caller)
         journal = wanted_journal(self.project)
         are_same = lines is None or lines == content(self.project.folder / REQUIREMENTS)
         if is_whole(self.project, journal) and are_same:
@@ -115,6 +118,7 @@ class Locking:
         status = self.caller.hand_over(*place, "replace", *words)
         if saving.is_done(status):
             accepted(self.project, self.kept, self.caller, index)
+        tell_stopped(self.project, status)
         if status == UNSOLVED:
             self.tell_other_environments()
         return status

@@ -31,6 +31,14 @@ def run_passed(project: Project, request: PassedRequest) -> int:
     """The status of a call of the program with the words that were given."""
     if request.word == "tree" and request.words and not request.words[0].startswith("-"):
         raise SettingsFault(f"tree: it takes no name: {shlex.join(['rql', 'show', request.words[0]])} tells what needs it")
+    from reqlock_tools.rql.stopped import tell_stopped
+
+    status = passed(project, request)
+    tell_stopped(project, status)
+    return status
+
+
+def passed(project: Project, request: PassedRequest) -> int:
     caller = Caller(project.options)
     words = ["show", "--tree"] if request.word == "tree" else [request.word]
     call = [*words, *request.words]
