@@ -29,6 +29,8 @@ OWN = "--index", "--env", "--json"
 TARGETING = "init", "retarget"
 # Those that a value stands behind.
 VALUED = "--before", "--keep"
+PINS = "--pins"
+TELLING = frozenset(("-v", "--verbose"))
 
 
 class Usage(Refusal):
@@ -36,11 +38,12 @@ class Usage(Refusal):
 
 
 class Words(NamedTuple):
-    """The words of the program: a subcommand, its flags, and the texts behind it."""
+    """The words of the program: a subcommand, its flags, the texts behind it, and files of pins."""
 
     subcommand: str
     flags: list[str]
     texts: list[str]
+    pins: list[str]
 
     def is_dry(self) -> bool:
         """Whether the call saves nothing."""
@@ -48,14 +51,23 @@ class Words(NamedTuple):
 
     def of_call(self) -> list[str]:
         """What is called in a folder. A call that saves tells on standard error what changed."""
-        flags = list(self.flags)
-        if not self.is_dry() and "-v" not in flags and "--verbose" not in flags:
-            flags.append("--verbose")
-        return [self.subcommand, *flags, "--", *self.texts] if self.texts else [self.subcommand, *flags]
+        is_told = self.is_dry() or not TELLING.isdisjoint(self.flags)
+        return self.with_flags([*self.flags, *([] if is_told else ["--verbose"])])
+
+    def of_trial(self) -> list[str]:
+        """The same where no more is told than whether it is a request."""
+        return self.with_flags([flag for flag in self.flags if flag not in TELLING])
+
+    def with_flags(self, flags: list[str]) -> list[str]:
+        words = [self.subcommand, *flags, *self.of_pins()]
+        return [*words, "--", *self.texts] if self.texts else words
+
+    def of_pins(self) -> list[str]:
+        return [f"--pins={pins}" for pins in self.pins]
 
     def of_why(self) -> list[str]:
         kept = [flag for flag in self.flags if flag == "--keep-locked"]
-        return ["why", "--explain", *kept, *WHY[self.subcommand], *self.texts]
+        return ["why", "--explain", *kept, *self.of_pins(), *WHY[self.subcommand], *self.texts]
 
 
 class Task(NamedTuple):
@@ -70,9 +82,27 @@ class Task(NamedTuple):
     begins: bool
 
 
-def read_words(words: list[str]) -> Words:
+def divided_pins(words: list[str]) -> tuple[list[str], list[str]]:
+    """The words without options of pins, and the files of pins. Those behind `--` are texts."""
+    others: list[str] = []
+    files: list[str] = []
+    end = words.index("--") if "--" in words else len(words)
+    rest = iter(words[:end])
+    for word in rest:
+        option, sign, file = word.partition("=")
+        if option != PINS:
+            others.append(word)
+            continue
+        files.append(file if sign else next(rest, ""))
+        if files[-1].rpartition("=")[2] in ("", "-"):
+            raise Usage("--pins wants a file, which each folder is given; standard input can't be shared")
+    return [*others, *words[end:]], files
+
+
+def read_words(typed: list[str]) -> Words:
     flags: list[str] = []
     texts: list[str] = []
+    words, pins = divided_pins(typed)
     for place, word in enumerate(words):
         if word == "--":
             texts += words[place + 1 :]
@@ -93,7 +123,7 @@ def read_words(words: list[str]) -> Words:
     if subcommand not in WHY:
         near = "".join(f"; did you mean {name}?" for name in get_close_matches(subcommand, WHY, 1))
         raise Usage(f"{subcommand}: reqlock has no such subcommand{near}; {known}")
-    return Words(subcommand, flags, rest)
+    return Words(subcommand, flags, rest, pins)
 
 
 def is_below(path: str, folder: str) -> bool:
@@ -139,7 +169,8 @@ class Request:
 
     def files(self) -> list[str]:
         """The files that each call reads beside those of its folder."""
-        return [*([self.index] if self.index else []), *(environment.partition("=")[2] or environment for environment in self.environments)]
+        named = [*self.environments, *self.words.pins]
+        return [*([self.index] if self.index else []), *(file for _, file in map(divided, named))]
 
     def task(self, place: int, folder: str, path: str) -> Task:
         start = [self.program, *self.options(path)]
@@ -165,17 +196,24 @@ class FleetOptions:
 def request_of(options: FleetOptions, words: list[str]) -> Request:
     """The request of the options. For workers all paths are whole."""
     index, environments, program = options.index or os.environ.get("REQLOCK_INDEX") or None, options.environments, options.program
+    read = read_words(words)
     if options.dask:
         index = index and os.path.abspath(index)
-        environments = [f"{name}={os.path.abspath(file)}" for name, file in map(divided, environments)]
+        environments, read = [*map(whole, environments)], read._replace(pins=[*map(whole, read.pins)])
         program = os.path.abspath(program)
     elif os.path.exists(program):
         program = os.path.abspath(program)
-    return Request(read_words(words), program, index, environments, options.explains)
+    return Request(read, program, index, environments, options.explains)
+
+
+def whole(named: str) -> str:
+    """A value of --env or --pins with the whole path of its file."""
+    name, file = divided(named)
+    return f"{name}={os.path.abspath(file)}"
 
 
 def divided(environment: str) -> tuple[str, str]:
-    """The name and the file of a value of --env."""
+    """The name and the file of a value of --env or --pins."""
     name, sign, file = environment.partition("=")
     return (name, file) if sign else ("", name)
 
@@ -191,7 +229,7 @@ def checked(told: Told, request: Request) -> Told:
 def check_request(request: Request) -> None:
     """The program reads the words, the index and the environments. It is asked in an empty folder, so no other is touched."""
     with tempfile.TemporaryDirectory() as folder:
-        status, _, errors = checked(tell([request.program, *request.options(folder), *request.words.of_call()]), request)
+        status, _, errors = checked(tell([request.program, *request.options(folder), *request.words.of_trial()]), request)
         if status == 2:
             raise Usage(errors.strip().removeprefix("error: ").removeprefix("reqlock: "))
         reads_environments = request.words.subcommand in TARGETING
@@ -199,8 +237,10 @@ def check_request(request: Request) -> None:
             with open(os.path.join(folder, "requirements.txt"), "wb"):
                 pass
         if request.index:
-            subcommand = "try" if reads_environments else "skipped"
-            status, _, errors = checked(tell([request.program, *request.options(folder), subcommand]), request)
+            trial = ["init", "--dry-run", *request.words.of_pins()] if reads_environments else ["skipped"]
+            status, _, errors = checked(tell([request.program, *request.options(folder), *trial]), request)
+            if status == 2:
+                raise Usage(errors.strip().removeprefix("reqlock: "))
             if status not in (0, 3):
                 raise Refusal(input_fault(errors, request))
 
@@ -208,8 +248,8 @@ def check_request(request: Request) -> None:
 def input_fault(errors: str, request: Request) -> str:
     """What the program told of an input, with the name of the file."""
     what, _, word = errors.strip().removeprefix("reqlock: ").partition(": ")
-    name = what.removeprefix("environment").strip()
     files = {f"environment {name}".strip(): file for name, file in map(divided, request.environments)}
-    path = request.index if what == "index" else files.get(f"environment {name}".strip(), what)
+    files |= {f"pins {name}".strip(): file for name, file in map(divided, request.words.pins)}
+    path = request.index if what == "index" else files.get(what, what)
     maker = {"index": "reqlock-snapshot", "environment": "reqlock-environment"}.get(what.partition(" ")[0], "")
     return f"{path}: {word or what}" + (f"; {maker} makes such a file" if maker else "")

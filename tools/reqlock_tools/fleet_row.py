@@ -142,10 +142,11 @@ def reason_of(why: Told) -> str:
 
 
 def call_fault(told: Told) -> str:
+    """The first line of what is wrong; a call in the folder itself tells what is known of it."""
     status, output, errors = told
     if status < 0:
         return f"signal {-status} ended the call"
-    return errors.strip().removeprefix("reqlock: ") or output.strip() or f"status {status}"
+    return errors.strip().partition("\n")[0].removeprefix("reqlock: ") or output.strip() or f"status {status}"
 
 
 def folder_call(task: Task, words: str) -> str:

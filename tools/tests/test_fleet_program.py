@@ -94,6 +94,29 @@ class OverProgram(Program):
         self.assertEqual(self.fleet("mail", "site", "--", "forget", "--before", "0")[0], 0)
         self.assertIn("--before or --keep is needed", self.fleet("mail", "--", "forget")[2])
 
+    def test_other_targets(self):
+        (self.outside / "pins.txt").write_bytes(b"requests==2.28\n")
+        (self.outside / "bad.txt").write_bytes(b"urllib3>=1.26\n")
+        new = "--env", "new=environment.json"
+        for words, status, told in (
+            (["docs", "--", "retarget"], 2, "error: --env is needed\n"), ([*new, *new, "docs", "--", "retarget"], 2, "error: --env new twice\n"),
+            ([*new, "docs", "--", "retarget", "--pins", "old=pins.txt"], 2, "error: --pins has no target old\n"),
+            ([*new, "docs", "--", "retarget", "--pins", "-"], 2, "error: --pins wants a file, which each folder is given; "),
+            ([*new, "docs", "--", "retarget", "--pins", "new=bad.txt"], 4, "bad.txt: line 1: no-pin\n"),
+            ([*new, "docs", "--", "retarget", "--pins=absent.txt"], 4, "absent.txt: unreadable\n"),
+        ):
+            with self.subTest(words=words):
+                found, output, errors = self.fleet(*words)
+                self.assertEqual((found, output), (status, ""))
+                self.assertIn(told, errors)
+                self.assertNotIn("/tmp", errors)
+        (self.outside / "news" / "requirements.txt").write_bytes(b"urllib3\n")
+        broken = "requirements.txt: files-disagree: reqlock --dir news check tells more"
+        rows = ("mail", "ok 1", "- target, + target new"), ("news", "broken", broken), ("site", "ok 1", "- target, + target new")
+        words = *new, "mail", "news", "site", "--", "retarget", "--pins", "new=pins.txt"
+        self.assertEqual(self.fleet(*words), (4, f"{table(*rows)}\n3 folders: 2 ok, 1 broken\n", ""))
+        self.assertRegex(self.asked("mail", "show"), "requests +2.28 ")
+
     def test_a_folder_without_a_history(self):
         (self.outside / "bare").mkdir()
         (self.outside / "bare" / "requirements.txt").write_bytes(b"urllib3\n")
