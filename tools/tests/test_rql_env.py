@@ -336,7 +336,7 @@ class Refused(Begun):
         before = self.settings.read_bytes()
         status, _, errors = self.rql("env", "add", "windows", CI="1")
         self.assertEqual(status, 4)
-        self.assertIn("rql lock has them fit\n", errors)
+        self.assertIn("rql lock has the lock fit them\n", errors)
         self.assertEqual(self.settings.read_bytes(), before)
         self.assertEqual(self.types("rql lock")[:2], (0, "ok 1\n"))
         self.accepts("env", "add", "windows", answer="ok 2\n")

@@ -69,12 +69,27 @@ class Lines(Served):
     def test_an_edit_over_lines_that_were_changed_by_hand(self):
         self.begin("rich<2\n")
         self.change("rich\n")
-        told = "lines or locks were changed since they were saved: rql lock has them fit\n"
+        told = "the lines were changed since they were saved: rql lock has the lock fit them\n"
         for words in ["add", "flask"], ["upgrade"], ["remove", "rich"]:
             self.assertNotIn(told, self.rql(*words)[2])
             status, output, errors = self.rql("-v", *words)
             self.assertEqual((status, output), (4, ""))
             self.assertIn(told, errors)
+
+    def test_an_edit_over_a_lock_that_was_changed_by_hand(self):
+        """Where it doesn't read, the index is made all the same, and the program tells of it."""
+        self.begin("rich<2\n")
+        lock = self.folder / "pylock.toml"
+        for data in lock.read_bytes() + b"# mine\n", b"packages = 1\n", b"no TOML [\n", b"\xff":
+            lock.write_bytes(data)
+            for words in ["add", "flask"], ["upgrade"], ["retarget"], ["lock"], ["why", "flask"]:
+                status, output, errors = self.rql("-v", *words)
+                self.assertEqual((status, output), (4, ""))
+                self.assertIn("reqlock: pylock.toml: files-disagree\n", errors)
+                self.assertIn("pylock.toml isn't the one that reqlock.journal was saved with. ", errors)
+                self.assertNotIn("rql lock has the lock fit", errors)
+            told = "pylock.toml: it isn't what was saved: rql lock mends what git merges; else rql -v check tells how it is brought back\n"
+            self.assertIn(told, self.rql("upgrade", CI="1")[2])
 
     def test_without_a_history(self):
         self.begin("rich\n")

@@ -304,7 +304,7 @@ class Targets(Synced):
         self.lock({"a": "1"})
         path = self.project / "pylock.toml"
         path.write_bytes(path.read_bytes() + b"\n")
-        self.refuses("pylock.toml: it isn't the lock that was saved with the journal: rql check tells more, rql lock has them fit$")
+        self.refuses("pylock.toml: it isn't the lock that was saved with the journal: rql check tells more, rql lock mends what git merged$")
         path.unlink()
         self.refuses("pylock.toml: it isn't there, and the journal has it")
         path.symlink_to("/etc/hostname")

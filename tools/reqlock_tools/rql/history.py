@@ -35,9 +35,13 @@ def wanted_journal(project: Project) -> Journal:
 
 def is_whole(project: Project, journal: Journal) -> bool:
     """Whether lines and locks are those that were saved with the journal."""
-    if digest_of(content(project.folder / REQUIREMENTS)) != journal.requirements:
-        return False
-    return all(digest_of(content(project.folder / lock_name(target))) == digest for target, digest in journal.locks.items())
+    return digest_of(content(project.folder / REQUIREMENTS)) == journal.requirements and not changed_locks(project, journal)
+
+
+def changed_locks(project: Project, journal: Journal) -> list[str]:
+    """The names of the locks that aren't those that were saved with the journal."""
+    names = {lock_name(target): digest for target, digest in journal.locks.items()}
+    return [name for name, digest in names.items() if digest_of(content(project.folder / name)) != digest]
 
 
 class Saving:
@@ -60,5 +64,10 @@ class Saving:
 def tell_changed(project: Project) -> None:
     """Tells what has lines and locks fit again that somebody changed since they were saved."""
     journal = journal_of(project)
-    if journal is not None and not is_whole(project, journal):
-        say("lines or locks were changed since they were saved: rql lock has them fit")
+    if journal is None or is_whole(project, journal):
+        return
+    locks = changed_locks(project, journal)
+    if locks:
+        say(f"{', '.join(locks)}: it isn't what was saved: rql lock mends what git merges; else rql -v check tells how it is brought back")
+    else:
+        say("the lines were changed since they were saved: rql lock has the lock fit them")

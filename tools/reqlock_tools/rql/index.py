@@ -84,7 +84,7 @@ def addresses(project: Project) -> tuple["IndexAddress", ...]:
 
 
 def locks_of(project: Project) -> list[Path]:
-    """The locks of the history; none where there is none, or its journal doesn't read, of which the program tells."""
+    """The locks of the history; none where there is none. What doesn't read of them is passed over, since the program tells of it."""
     from reqlock_tools.rql.history import journal_of
 
     try:
@@ -92,7 +92,17 @@ def locks_of(project: Project) -> list[Path]:
     except Refusal:
         return []
     paths = [project.lock_path(target) for target in sorted(journal.locks)] if journal else []
-    return [path for path in paths if path.is_file() and not path.is_symlink()]
+    return [path for path in paths if path.is_file() and not path.is_symlink() and is_read(path)]
+
+
+def is_read(lock: Path) -> bool:
+    from reqlock_tools.simple.locked import locked_versions
+
+    try:
+        locked_versions([str(lock)])
+    except (Refusal, OSError):
+        return False
+    return True
 
 
 def remembered(kept: Kept) -> tuple[str, ...]:

@@ -70,7 +70,7 @@ def journal_targets(folder: Path) -> list[Target]:
             raise SettingsFault(f"{path}: it isn't there, and the journal has it: rql check tells more")
         data = content(path)
         if digest_of(data) != journal.locks[name]:
-            raise SettingsFault(f"{path}: it isn't the lock that was saved with the journal: rql check tells more, rql lock has them fit")
+            raise SettingsFault(f"{path}: it isn't the lock that was saved with the journal: rql check tells more, rql lock mends what git merged")
         targets.append(Target(name, path, text_of(path, data), environment))
     return targets
 
