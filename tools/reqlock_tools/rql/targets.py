@@ -7,6 +7,7 @@ from difflib import get_close_matches
 from reqlock_tools.environment import PLATFORMS
 from reqlock_tools.files import write_whole
 from reqlock_tools.refusal import fault_text
+from reqlock_tools.rql.checking import named
 from reqlock_tools.rql.defaults import family_name, own_platform, own_python, refuse_platform, refuse_python
 from reqlock_tools.rql.edits import edited
 from reqlock_tools.rql.environments import described, environments, label_of, place_of
@@ -91,9 +92,10 @@ def added(settings: Settings, request: EnvRequest, name: str) -> tuple[Environme
     """The environments with one more. One without a name gets the name of its platform."""
     if not TARGET.fullmatch(name):
         raise SettingsFault(f"{name!a}: it is no name of a target: small letters, digits and -")
-    new = EnvironmentSetting(name, request.python or own_version(settings), request.platform or platform_of(name))
+    present = present_environments(settings)
+    new = EnvironmentSetting(name, request.python or present[0].python, request.platform or platform_of(name))
     described(new, place_of(settings, new))
-    others = [target if target.name else replace(target, name=family_name(target.platform)) for target in settings.environments]
+    others = [target if target.name else replace(target, name=family_name(target.platform)) for target in present]
     if name in [other.name for other in others]:
         raise SettingsFault(f"{place_of(settings, new)}: this target is there already: rql env set {name} changes it")
     return (*others, new)
@@ -103,7 +105,7 @@ def changed(settings: Settings, request: EnvRequest) -> tuple[EnvironmentSetting
     """The environments with another Python, or on another platform, in the place of one; that is the one alone where no name was typed."""
     if not (request.python or request.platform):
         raise SettingsFault("rql env set: --python VERSION or --platform NAME is wanted")
-    present = settings.environments or (EnvironmentSetting("", own_python(), own_platform()),)
+    present = present_environments(settings)
     name = request.name if request.name is not None else present[0].name
     if request.name is None and len(present) > 1:
         names = ", ".join(environment.name for environment in present)
@@ -130,14 +132,14 @@ def near_name(name: str, names: Iterable[str]) -> str:
 
 def renamed_exports(settings: Settings, changed: Sequence[EnvironmentSetting]) -> tuple[ExportSetting, ...]:
     """The exports, where the target without a name got one: they are of that one, but for those of all."""
-    if "" in {environment.name for environment in changed} or "" not in {environment.name for environment in settings.environments}:
+    if "" in {environment.name for environment in changed} or all(environment.name for environment in present_environments(settings)):
         return settings.exports
     return tuple(export if export.target or export.is_of_all() else replace(export, target=changed[0].name) for export in settings.exports)
 
 
-def own_version(settings: Settings) -> str:
-    """The version of Python of the first environment."""
-    return settings.environments[0].python if settings.environments else own_python()
+def present_environments(settings: Settings) -> tuple[EnvironmentSetting, ...]:
+    """The environments of the settings; that of this Python where they have none."""
+    return settings.environments or (EnvironmentSetting("", own_python(), own_platform()),)
 
 
 def platform_of(name: str) -> str:
@@ -154,7 +156,7 @@ def removed(settings: Settings, name: str) -> tuple[EnvironmentSetting, ...]:
     refuse_absent(settings, settings.environments, name)
     others = tuple(environment for environment in settings.environments if environment.name != name)
     if not others:
-        raise SettingsFault(f"{settings.file}: environments: {name} is the only one")
+        raise SettingsFault(f"{settings.file}: environments: {named(name)} is the only one")
     for number, export in enumerate(settings.exports):
         if export.target == name:
             raise SettingsFault(f"{settings.file}: exports[{number}]: {export.file} is of {name}: take it out of the settings first")
