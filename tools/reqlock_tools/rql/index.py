@@ -91,15 +91,18 @@ def locks_of(project: Project) -> list[Path]:
         journal = journal_of(project)
     except Refusal:
         return []
-    paths = [project.lock_path(target) for target in sorted(journal.locks)] if journal else []
-    return [path for path in paths if path.is_file() and not path.is_symlink() and is_read(path)]
+    locks = {project.lock_path(target): digest for target, digest in sorted(journal.locks.items())} if journal else {}
+    return [path for path, digest in locks.items() if path.is_file() and not path.is_symlink() and is_read(path, digest)]
 
 
-def is_read(lock: Path) -> bool:
+def is_read(lock: Path, digest: str) -> bool:
+    """Whether a lock reads, as the one of this digest does, which the program has saved."""
+    from reqlock_tools.merge_sides import digest_of
     from reqlock_tools.simple.locked import locked_versions
 
     try:
-        locked_versions([str(lock)])
+        if digest_of(lock.read_bytes()) != digest:
+            locked_versions([str(lock)])
     except (Refusal, OSError):
         return False
     return True
