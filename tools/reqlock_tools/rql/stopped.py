@@ -41,7 +41,7 @@ def end_save(project: Project, kept: Kept, caller: Caller) -> None:
     journal = journal_of(project) if is_stopped(project) else None
     if journal is None or is_whole(project, journal):
         return
-    from reqlock_tools.rql.index import Wanted, made_index
+    from reqlock_tools.rql.index import present_index
 
-    index = made_index(project, kept, Wanted())
+    index = present_index(project, kept)
     caller.answered("--dir", typed_path(project.folder), "--index", typed_path(index), "batch", text="")
