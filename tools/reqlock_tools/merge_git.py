@@ -117,13 +117,12 @@ class Checkout:
     def stage(self, files: dict[str, bytes], gone: list[str]) -> None:
         """Puts files into the index as they are to stand in the folder, and takes out those that go."""
         prefix = self.call("rev-parse", "--show-prefix").removesuffix(b"\n")
-        rows = b""
-        for name, data in files.items():
-            digest = self.call("hash-object", "-w", "--stdin", f"--path={name}", data=data).strip()
-            rows += b"%s %s\t%s%s\0" % (self.mode(name), digest, prefix, name.encode())
+        digests = {name: self.call("hash-object", "-w", "--stdin", f"--path={name}", data=data).strip() for name, data in files.items()}
+        told = [(self.mode(name), digest, name) for name, digest in digests.items()]
+        # (the mode 0 takes a file out, with a digest of zeros alone)
+        told += [(b"0", b"0" * len(digest), name) for name in gone for digest in [*digests.values()][:1]]
+        rows = b"".join(b"%s %s\t%s%s\0" % (mode, digest, prefix, name.encode()) for mode, digest, name in told)
         self.call("update-index", "-z", "--add", "--index-info", data=rows)
-        if gone:
-            self.call("update-index", "--force-remove", "--", *gone)
 
     def mode(self, name: str) -> bytes:
         """The mode that the index has for a file, or that of a file in general."""
