@@ -96,7 +96,7 @@ class Words(Begun):
     def test_of_env(self):
         before = self.files()
         index = "--dir", ".", "--index", ".reqlock/index.asked.json"
-        words = [*index, *ENVIRONMENTS, "--keep-locked", "--dry-run", "retarget", "--pins", "windows=pins.txt", "--pins", "more.toml"]
+        words = [*index, *ENVIRONMENTS, "--keep-locked", "--dry-run", "retarget", "--pins", "windows=pins.txt", "--pins", "windows=more.toml"]
         given = "--dry-run", "--pins", "windows=pins.txt", "--keep-locked", "--pins", "more.toml"
         self.assertEqual(self.given("env", "add", "windows", *given, status=3), words)
         self.assertEqual(self.given("env", "add", "windows", status=3), [*index, *ENVIRONMENTS, "retarget"])
