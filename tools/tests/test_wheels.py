@@ -10,7 +10,7 @@ import tomllib
 import unittest
 
 from support.made.archives import wheel
-from support.made.environments import LINUX, WINDOWS
+from support.made.environments import LINUX, MACOS, WINDOWS
 from support.places import PROGRAM, TOP, needs_program, new_folder
 from support.program import FILES
 from support.rules.installs import Installing, installed_by
@@ -249,11 +249,17 @@ class TwoPlatforms(Shell):
         for version in "8.1", "8.2":
             wheel(self.folder / "wheels", "click", version)
         new = LINUX | {"python_version": "3.13", "python_full_version": "3.13.1"}
-        (self.folder / "new.json").write_text(json.dumps(new), encoding="utf-8")
-        self.check_runs(f"python3 tools/snapshot.py wheels --output index.json\n{self.again}", "ok 0")
-        for name, wanted in self.WANTED.items():
-            lock = (self.folder / f"pylock.{name}.toml").read_text(encoding="utf-8")
-            self.assertEqual(dict(re.findall('name = "([a-z]+)"\nversion = "(.*)"', lock)), wanted)
+        for name, environment in ("new", new), ("macos", MACOS):
+            (self.folder / f"{name}.json").write_text(json.dumps(environment), encoding="utf-8")
+        self.check_runs(f"python3 tools/snapshot.py wheels --output index.json\n{self.again}", "ok 2")
+        self.check_locks(linux=self.WANTED["linux"], macos=self.WANTED["linux"])
+        self.check_runs("reqlock undo\n", "ok 1")
+        self.check_locks(**self.WANTED)
+
+    def check_locks(self, **targets):
+        """These targets have locks and no others, each with these versions."""
+        locks = {path.name.split(".")[1]: path.read_text(encoding="utf-8") for path in self.folder.glob("pylock.*.toml")}
+        self.assertEqual({name: dict(re.findall('name = "([a-z]+)"\nversion = "(.*)"', lock)) for name, lock in locks.items()}, targets)
 
     @unittest.skipUnless(shutil.which("git"), "there is no git")
     def test_the_attributes_keep_both_locks(self):
