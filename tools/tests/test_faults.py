@@ -262,6 +262,10 @@ class NextSteps(Program):
         self.assertNotIn("reqlock-environment", self.bare_notes("--index", "index.json", "init")[1])
         self.assertTrue(self.bare_notes("undo", "--dir", "x", "--index")[0].startswith("error: "))
         self.assertIn("index.json is here.", self.bare_notes("relock")[1])
+        told = "A retarget locks for the environments that are given, and for no others. --env NAME=FILE gives that of a target with a name.\n"
+        for words in ["retarget"], ["why", "--retarget"]:
+            rest = self.bare_notes("--index", "index.json", *words)[1]
+            self.assertTrue(rest.endswith(f"    reqlock --env environment.json --index index.json {' '.join(words)} -v\n{told}"), rest)
 
     def test_of_files_that_are_not_there(self):
         absent = ": No such file or directory (os error 2)\n"
@@ -448,6 +452,24 @@ class NextSteps(Program):
         self.assertIn(f"\n{git} checkout HEAD -- {sides}", self.notes("log"))
         self.put(files | {"reqlock.journal": files["reqlock.journal"] + b">>>>>>> b\n"})
         self.assertTrue(self.notes("log").startswith("git left a conflict at line 2 of reqlock.journal."))
+
+    def test_of_a_save_that_was_stopped(self):
+        self.assertEqual(self.call("init"), (0, "ok 0\n"))
+        before = self.files()
+        self.assertEqual(self.call("add", "c"), (0, "ok 1\n"))
+        after = self.files()
+        names = "requirements.txt", "pylock.toml", "reqlock.journal"
+        told = "A save was stopped midway: what it was to put in place stands beside, with .new behind the names. The next call that saves ends it. "
+        for moved in 1, 2:
+            with self.subTest(moved=moved):
+                stopped = before | {name: after[name] for name in names[:moved]} | {f"{name}.new": after[name] for name in names[moved:]}
+                self.put(stopped)
+                self.assertTrue(self.notes("check").startswith(f"{told}Where it can't:\n"))
+                self.put(stopped | {"requirements.txt": b"a\n\n"})
+                self.assertNotIn("midway", self.notes("check"))
+                self.put(stopped)
+                self.assertEqual(self.call("relock"), (0, "same\n"))
+                self.assertEqual(self.files(), after)
 
 
 def closed():

@@ -264,7 +264,7 @@ class Told(Terminal):
         self.assertEqual(
             shown,
             "Nothing changes, and nothing is saved.\n"
-            "--env counts for nothing here: the history has the environments of its init. Another init gives it others.\n",
+            "--env counts for nothing here: the history has its own environments. `reqlock retarget` gives it others.\n",
         )
 
     def test_what_to_type_where_an_edit_is_refused(self):

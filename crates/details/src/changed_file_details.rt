@@ -26,6 +26,7 @@ impl Details {
         if self.add_conflict(files, checkout, file, bytes)? || self.add_progress(files, checkout)? {
             return Ok(());
         }
+        self.add_stopped_save(rt, files.dir, file)?;
         let locks = locks_in(rt, files.dir)?;
         match file {
             InputFile::Requirements if files.is_old => self.add_seeking(files, checkout, &locks),
@@ -132,6 +133,7 @@ impl Details {
         if self.add_progress(files, checkout)? {
             return Ok(());
         }
+        self.add_stopped_save(rt, files.dir, file)?;
         self.known
             .push_str("Where git has the lock, this brings it back:\n")?;
         self.add_git(files.dir)?;

@@ -39,7 +39,7 @@ pub(crate) fn locks_in<R: Files + AllocGlobal>(
         return lone_lock(rt, dir, locks);
     };
     for name in names.into_vec() {
-        let digest = lock_digest(rt, dir, &name)?;
+        let digest = file_digest(rt, dir, &InputFile::Lock(name.clone()?))?;
         locks.are_saved = locks.are_saved && header.as_str().contains(digest.as_str());
         locks.names.push(name)?;
     }
@@ -60,20 +60,19 @@ fn lone_lock<R: Files + AllocGlobal>(
     Ok(locks)
 }
 
-/// The digest of a lock, in the digits in which a journal has it.
-fn lock_digest<R: Files + AllocGlobal>(
+/// The digest of a file of the folder, in the digits in which a journal has it.
+pub(crate) fn file_digest<R: Files + AllocGlobal>(
     rt: &R,
     dir: &str,
-    name: &TargetName,
+    file: &InputFile,
 ) -> Result<String, AllocError> {
-    let file = InputFile::Lock(name.clone()?);
-    let path = path_of(rt.alloc(), dir, &file)?;
-    let bytes = bytes_of(rt, &file, path.as_str())?;
+    let path = path_of(rt.alloc(), dir, file)?;
+    let bytes = bytes_of(rt, file, path.as_str())?;
     hex::encode(rt.alloc(), Sha256::digest(bytes.as_slice()))
 }
 
 /// The first line of a text; empty where it is no text.
-fn first_line(alloc: Global, bytes: &[u8]) -> Result<String, AllocError> {
+pub(crate) fn first_line(alloc: Global, bytes: &[u8]) -> Result<String, AllocError> {
     let text = str::from_utf8(bytes).unwrap_or("");
     String::from_str(alloc, text.lines().next().unwrap_or(""))
 }

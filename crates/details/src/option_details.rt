@@ -64,7 +64,16 @@ impl Details {
             )?;
             add_environment_command(rt.alloc(), &mut self.known, ENVIRONMENT)?;
         }
-        self.add_call(words, "--env", ENVIRONMENT)
+        self.add_call(words, "--env", ENVIRONMENT)?;
+        if words
+            .iter()
+            .any(|word| matches!(word.as_str(), "retarget" | "--retarget"))
+        {
+            self.known.push_str(
+                "A retarget locks for the environments that are given, and for no others. --env NAME=FILE gives that of a target with a name.\n",
+            )?;
+        }
+        Ok(())
     }
 
     /// The call with one option more, behind the program's name.
@@ -84,7 +93,7 @@ impl Details {
             return Ok(());
         }
         self.steps.push_str(
-            "--env counts for nothing here: the history has the environments of its init. Another init gives it others.\n",
+            "--env counts for nothing here: the history has its own environments. `reqlock retarget` gives it others.\n",
         )
     }
 }
