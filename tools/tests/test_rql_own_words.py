@@ -141,9 +141,10 @@ class Texts(unittest.TestCase):
 
     def test_a_lock_of_no_target(self):
         told = "reqlock: pylock.win.toml is of no target of this history, and no edit changes it: remove it"
-        way = f"{told}, or lock for it too by"
-        wanted = f"{told}, or move it elsewhere and lock for it too by rql -C 'a b' env add win --pins win=FILE\n"
-        self.assertEqual(in_own_words(f"{way} init --env win=FILE\n", Here(start="a b")), wanted)
+        way = f"{told}, or move it elsewhere and lock for it too by"
+        others = "beside those of the other targets"
+        wanted = f"{way} rql -C 'a b' env add win --pins win=FILE\n"
+        self.assertEqual(in_own_words(f"{way} retarget, with --env win=FILE {others}\n", Here(start="a b")), wanted)
         self.assertEqual(in_own_words(f"{told}\nline 1: {told}\n", Here()), f"{told}\nline 1: {told}\n")
 
     def test_colours(self):

@@ -11,7 +11,8 @@ from support.program import Program
 
 def told_of(name, way=None):
     """The line that tells of the lock of this name, and how it is locked for, where the name may be a target's."""
-    behind = "" if way is None else f", or lock for it too by init --env {way}=FILE"
+    other = f", or move it elsewhere and lock for it too by retarget, with --env {way}=FILE beside those of the other targets"
+    behind = "" if way is None else other
     return f"reqlock: pylock.{name}.toml is of no target of this history, and no edit changes it: remove it{behind}\n"
 
 

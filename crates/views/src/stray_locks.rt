@@ -86,7 +86,10 @@ fn add_stray(text: &mut String, name: &str) -> Result<(), AllocError> {
     add_plain(text, name)?;
     text.push_str(".toml is of no target of this history, and no edit changes it: remove it")?;
     if is_target_name(*text.allocator(), name)? {
-        write!(text, ", or lock for it too by init --env {name}=FILE")?;
+        write!(
+            text,
+            ", or move it elsewhere and lock for it too by retarget, with --env {name}=FILE beside those of the other targets"
+        )?;
     }
     text.push_str("\n")
 }

@@ -28,6 +28,8 @@ SENTENCES = {
         "The lock has the hashes: take them out here. `rql init --from FILE` takes over a whole file of pip-tools, where no settings are yet.",
     "That is a URL, and reqlock locks releases of an index: put a wheel of it where reqlock-snapshot finds it, and write the name.":
         "That is a URL, and what is locked are releases of an index: publish a wheel of it to one that the settings name, and write the name.",
+    "--env counts for nothing here: the history has its own environments. `reqlock retarget` gives it others.":
+        "--env counts for nothing here: the history has its own environments. `rql env set` and `rql env add` give it others.",
     "Take the line out: reqlock-snapshot is told the index and what of it counts.":
         "Take the line out: the settings of rql name the index and what of it counts.",
 }
@@ -48,7 +50,10 @@ LACKED = re.compile(spaced(r"(?m)^the index has no release of (\S+)(?:; near nam
 LACKS = re.compile(spaced(r"(?m)the snapshot has no packages? \S"))
 TAKEN_IN = re.compile(spaced(r"(?m)^Where the package index has (?:it|them), the same edit by rql takes (?:it|them) in\.\n"))
 # What `check` says of a lock that is of no target.
-STRAY = re.compile(r"(?m)^(reqlock: pylock\.[^\n]*: remove it, or )(lock for it too by )init --env ([a-z][a-z0-9-]*)=FILE$")
+STRAY = re.compile(
+    r"(?m)^(reqlock: pylock\.[^\n]*: remove it, or move it elsewhere and lock for it too by )"
+    r"retarget, with --env ([a-z][a-z0-9-]*)=FILE beside those of the other targets$"
+)
 CALLS = LINE, QUESTION, QUOTED, MERGING
 KNOWN = {re.compile(rf"(?m)^{'[ ]'.join(map(re.escape, old.split(' ')))}$".replace("[ ]", "[ \n]")): new for old, new in SENTENCES.items()}
 
@@ -64,9 +69,9 @@ def in_own_words(text: str, here: Here, width: int | None = None) -> str:
 
 
 def locked_too(stray: "re.Match[str]", here: Here) -> str:
-    """What `check` tells of a lock that is of no target. It stands in the place of that of a target that comes."""
-    before, way, target = stray.groups()
-    return f"{before}move it elsewhere and {way}{shlex.join(front(here.start))} env add {target} --pins {target}=FILE"
+    """What `check` tells of a lock that is of no target."""
+    way, target = stray.groups()
+    return f"{way}{shlex.join(front(here.start))} env add {target} --pins {target}=FILE"
 
 
 def own(occurrence: "re.Match[str]", here: Here) -> str:
