@@ -3,3 +3,4 @@ pub mod Members
 pub mod RisingItems
 pub mod SortedInserts
 pub mod SpaceBytes
+pub mod Taking

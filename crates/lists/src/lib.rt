@@ -14,13 +14,15 @@
 
 mod bits;
 mod copies;
+mod lent;
 mod name_order;
 mod seq;
 mod spaces;
 mod text;
 
 pub use crate::bits::Bits;
-pub use crate::copies::copied;
+pub use crate::copies::{copied, copy_of};
+pub use crate::lent::Lent;
 pub use crate::name_order::{Named, rises};
 pub use crate::seq::{Faithful, Seq};
 pub use crate::spaces::{
