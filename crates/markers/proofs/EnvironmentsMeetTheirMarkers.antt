@@ -19,7 +19,7 @@ use Rattle.markers.specs.Variables.{variable_name}
 use Rattle.markers.specs.declared.comparison.Comparison.TheVariants as comparisons
 use Rattle.markers.specs.declared.marker_atom.Atom.TheVariants as atoms
 use Rattle.markers.specs.declared.marker_atom.Operand.TheVariants as operands
-use Rattle.markers.specs.declared.marker_atom.Operator.TheVariants as operators
+use Rattle.markers.specs.declared.marker_atom.MarkerOperator.TheVariants as operators
 use Rattle.markers.specs.declared.marker_token.Token.{Token}
 use Rattle.markers.specs.declared.marker_token.Token.TheVariants as tokens
 use Rattle.markers.specs.declared.variable.Variable.{Variable}

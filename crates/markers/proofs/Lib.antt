@@ -9,7 +9,7 @@ mod OtherExtras
 mod ReadFacts
 mod TextsEqualThemselves
 mod ReadIsSpelled
-mod TokensAreSpelled
+pub mod TokensAreSpelled
 mod SpelledTokensAreFound
 mod TextsReadAsSpelled
 mod TokenFacts

@@ -10,8 +10,8 @@ use Rattle.markers.specs.declared.comparison.Comparison.TheVariants as compariso
 use Rattle.markers.specs.declared.marker_atom.Atom.{Atom}
 use Rattle.markers.specs.declared.marker_atom.Atom.TheVariants as atoms
 use Rattle.markers.specs.declared.marker_atom.Operand.TheVariants as operands
-use Rattle.markers.specs.declared.marker_atom.Operator.{Operator}
-use Rattle.markers.specs.declared.marker_atom.Operator.TheVariants as operators
+use Rattle.markers.specs.declared.marker_atom.MarkerOperator.{MarkerOperator}
+use Rattle.markers.specs.declared.marker_atom.MarkerOperator.TheVariants as operators
 use Rattle.markers.specs.declared.marker_group.Group.{Group}
 use Rattle.markers.specs.declared.marker_reader.Expected.{Expected}
 use Rattle.markers.specs.declared.marker_reader.Expected.TheVariants as expecteds
@@ -119,7 +119,7 @@ member-added g m ts front member cut begun h = record {
   members = members-last g.members m begun.last member begun.members h;
 }
 
-extra-spelled : (operator : Operator) (text : List ℕ) (a : Atom) → extra_named operator (result_ok (name_of text)) ≡ Some a
+extra-spelled : (operator : MarkerOperator) (text : List ℕ) (a : Atom) → extra_named operator (result_ok (name_of text)) ≡ Some a
     → IsAtom (tokens.Side sides.Extra ∷ (operator_tokens operator ++ tokens.Side (sides.Operand (operands.Quoted text)) ∷ [])) a
     × IsAtom (tokens.Side (sides.Operand (operands.Quoted text)) ∷ (operator_tokens operator ++ tokens.Side sides.Extra ∷ [])) a
 extra-spelled (operators.Compare comparisons.Equal) text a h =
@@ -130,7 +130,7 @@ extra-spelled (operators.Compare comparisons.NotEqual) text a h =
     rw (← e) (record { text = text; is_name = refl; sides = inl refl }, record { text = text; is_name = refl; sides = inr refl })
 extra-spelled operator text a h = absurd cc
 
-atom-spelled : (left right : Side) (operator : Operator) (a : Atom) → atom_of left operator right ≡ Some a → IsAtom (tokens.Side left ∷ (operator_tokens operator ++ tokens.Side right ∷ [])) a
+atom-spelled : (left right : Side) (operator : MarkerOperator) (a : Atom) → atom_of left operator right ≡ Some a → IsAtom (tokens.Side left ∷ (operator_tokens operator ++ tokens.Side right ∷ [])) a
 unfolding atom_of
 atom-spelled (sides.Operand left) (sides.Operand right) operator a h =
     let e : atoms.Relation (record { left = left; operator = operator; right = right }) ≡ a = cc in rw (← e) refl
@@ -199,7 +199,7 @@ some-added : (outer : List Group) (g : Group) (found : Option Atom) (s : Reader)
 some-added outer g None s h = absurd cc
 some-added outer g (Some a) s h = (a, refl, cc)
 
-complete-begun : (far near : List Token) (outer : List Group) (g : Group) (left : Side) (operator : Operator) (t : Token) (s : Reader)
+complete-begun : (far near : List Token) (outer : List Group) (g : Group) (left : Side) (operator : MarkerOperator) (t : Token) (s : Reader)
     → OuterBegun far outer → Behind near g (tokens.Side left ∷ operator_tokens operator) → complete outer g left operator t ≡ Some s → Begun ((far ++ near) ++ t ∷ []) s
 unfolding behind-more
 complete-begun far near outer g left operator (tokens.Side right) s o b h =

@@ -9,8 +9,8 @@ use Rattle.markers.specs.declared.marker_atom.Atom.{Atom}
 use Rattle.markers.specs.declared.marker_atom.Atom.TheVariants as atoms
 use Rattle.markers.specs.declared.marker_atom.Operand.{Operand}
 use Rattle.markers.specs.declared.marker_atom.Operand.TheVariants.{Quoted}
-use Rattle.markers.specs.declared.marker_atom.Operator.{Operator}
-use Rattle.markers.specs.declared.marker_atom.Operator.TheVariants as operators
+use Rattle.markers.specs.declared.marker_atom.MarkerOperator.{MarkerOperator}
+use Rattle.markers.specs.declared.marker_atom.MarkerOperator.TheVariants as operators
 use Rattle.markers.specs.declared.marker_group.Group.{Group}
 use Rattle.markers.specs.declared.marker_reader.Expected.TheVariants as expecteds
 use Rattle.markers.specs.declared.marker_reader.Reader.{Reader}
@@ -34,7 +34,7 @@ at_atom outer ended members = record { outer = outer; group = record { ended = e
 abbrev pub at_joint : List Group → List Tree → List Tree → Reader
 at_joint outer ended members = record { outer = outer; group = record { ended = ended; members = members }; expected = expecteds.Joint }
 
-relation-read : (left : Operand) (operator : Operator) (right : Operand) (rest : List Token) (outer : List Group) (ended members : List Tree)
+relation-read : (left : Operand) (operator : MarkerOperator) (right : Operand) (rest : List Token) (outer : List Group) (ended members : List Tree)
     → tree_behind (at_atom outer ended members) ((operand_token left ∷ (operator_tokens operator ++ operand_token right ∷ [])) ++ rest)
     ≡ tree_behind (at_joint outer ended (members ++ atom (atoms.Relation (record { left = left; operator = operator; right = right })) ∷ [])) rest
 unfolding step atom_of

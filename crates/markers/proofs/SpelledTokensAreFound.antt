@@ -7,7 +7,10 @@ use Rattle.std.specs.Cmp.{first_so, second_so}
 use Rattle.std.specs.List.{list_all}
 use Rattle.std.specs.Option.{option_map}
 use Rattle.std.specs.Prelude.{codes, not}
-use Rattle.markers.specs.MarkerSpelling.{AreTokens, IsQuoted, IsToken, goes_on, is_inside, starts_word, is_quotable, is_quote, is_word_byte}
+use Rattle.pep440.specs.Tied.Sets.{operator_of, single_of}
+use Rattle.pep440.specs.declared.specifier.Operator.{Operator}
+use Rattle.pep440.specs.declared.specifier.Operator.TheVariants as operators
+use Rattle.markers.specs.MarkerSpelling.{AreTokens, IsQuoted, IsToken, goes_on, is_inside, starts_word, is_quotable, is_quote, is_word_byte, starts_equal}
 use Rattle.lists.specs.Spaces.{is_space_or_tab}
 use Rattle.markers.specs.Tied.MarkerTokens.{quoted_text, token_at, tokens_from, word_at, word_of, word_token}
 use Rattle.markers.specs.Variables.{variable_name}
@@ -133,6 +136,10 @@ variable-known variables.PythonFullVersion = refl
 variable-known variables.PythonVersion = refl
 variable-known variables.SysPlatform = refl
 
+single-read : (b : ℕ) (o : Operator) (after : List ℕ) → single_of b ≡ Some o → starts_equal after ≡ false → operator_of (b ∷ after) ≡ Some (o, after)
+single-read b o [] h ends = rw h refl
+single-read b o (c ∷ rest) h ends = rw (ends, h) refl
+
 token-read : (t : Token) (first after : List ℕ) → IsToken first t → goes_on t after ≡ false → Found first t after
 unfolding token_at
 token-read (tokens.Side (sides.Operand (operands.Quoted inner))) first after is ends = quoted_token-found first inner after is
@@ -143,8 +150,8 @@ token-read (tokens.Compare comparisons.Equal) first after is ends = record { hea
 token-read (tokens.Compare comparisons.NotEqual) first after is ends = record { head = 33; tail = 61 ∷ []; cut = is; solid = refl; found = refl }
 token-read (tokens.Compare comparisons.AtMost) first after is ends = record { head = 60; tail = 61 ∷ []; cut = is; solid = refl; found = refl }
 token-read (tokens.Compare comparisons.AtLeast) first after is ends = record { head = 62; tail = 61 ∷ []; cut = is; solid = refl; found = refl }
-token-read (tokens.Compare comparisons.Below) first after is ends = record { head = 60; tail = []; cut = is; solid = refl; found = rw ends refl }
-token-read (tokens.Compare comparisons.Above) first after is ends = record { head = 62; tail = []; cut = is; solid = refl; found = rw ends refl }
+token-read (tokens.Compare comparisons.Below) first after is ends = record { head = 60; tail = []; cut = is; solid = refl; found = rw (single-read 60 operators.Below after refl ends) refl }
+token-read (tokens.Compare comparisons.Above) first after is ends = record { head = 62; tail = []; cut = is; solid = refl; found = rw (single-read 62 operators.Above after refl ends) refl }
 token-read tokens.Not first after is ends = word-read (codes "not") _ first after is (omega arith) refl refl ends
 token-read tokens.In first after is ends = word-read (codes "in") _ first after is (omega arith) refl refl ends
 token-read tokens.And first after is ends = word-read (codes "and") _ first after is (omega arith) refl refl ends

@@ -1,6 +1,6 @@
 -- What is found as tokens is spelled so by the grammar.
 use Rattle.std.proofs.Common.{◌≡◌, ℕ, zero, suc, ◌+◌, ◌-◌, Bool, true, false, eqb, List, [], ◌∷◌, ◌++◌, length, drop, Option, Some, None, refl, sym, ap, subst, ◌∙◌, inl, inr, append_assoc, arith}
-use Rattle.std.proofs.Math.Seq.{drop-append-add}
+use Rattle.std.proofs.Math.Seq.{drop-append-add, drop-append_seam}
 use Rattle.std.proofs.lemmas.Bool.{cases_Bool, eqb-true}
 use Rattle.std.proofs.lemmas.Slice.Eq.{bytes_eq-Decides}
 use Rattle.std.specs.Cmp.Derive.{both_true}
@@ -8,14 +8,17 @@ use Rattle.std.specs.List.{list_all}
 use Rattle.std.specs.Option.{option_map}
 use Rattle.std.specs.Prelude.{codes, find}
 use Rattle.std.specs.Str.{bytes_eq}
+use Rattle.pep440.specs.SetGrammar.{sign as operator_sign}
+use Rattle.pep440.specs.Tied.Sets.{double_of, operator_of, with_rest}
+use Rattle.pep440.specs.declared.specifier.Operator.{Operator}
+use Rattle.pep440.specs.declared.specifier.Operator.TheVariants as operators
+use Rattle.pep440.proofs.OperatorsRead.{operator-cut}
 use Rattle.markers.specs.Comparisons.{sign}
 use Rattle.markers.specs.Environment.{all_variables, variable_named}
 use Rattle.markers.specs.MarkerSpelling.{AreTokens, IsToken, goes_on, is_inside, starts_word, is_quotable, is_quote, is_word_byte, starts_equal}
 use Rattle.lists.specs.Spaces.{is_space_or_tab}
-use Rattle.markers.specs.Tied.MarkerTokens.{before_tokens, double_sign, quoted_at, quoted_text, sign_at, single_sign, token_at, tokens_from, word_at, word_of, word_token}
+use Rattle.markers.specs.Tied.MarkerTokens.{before_tokens, comparison_of, quoted_at, quoted_text, sign_at, token_at, tokens_from, word_at, word_of, word_token}
 use Rattle.markers.specs.Variables.{variable_name}
-use Rattle.markers.specs.declared.comparison.Comparison.{Comparison}
-use Rattle.markers.specs.declared.comparison.Comparison.TheVariants as comparisons
 use Rattle.markers.specs.declared.marker_atom.Operand.TheVariants as operands
 use Rattle.markers.specs.declared.marker_token.Side.TheVariants as sides
 use Rattle.markers.specs.declared.marker_token.Token.{Token}
@@ -147,61 +150,68 @@ word_at-found b rest t k good h =
       ends = w.grows (after_word rest) ∙ word-ends rest;
     })
 
-starts_equal-cut : (rest : List ℕ) → starts_equal rest ≡ true → rest ≡ 61 ∷ drop 1 rest
-starts_equal-cut [] h = absurd cc
-starts_equal-cut (b ∷ rest) h = ap (λ (c : ℕ). c ∷ rest) (eqb-true b 61 h)
+-- an operator that was read leaves what follows it
+rest-kept : (found : Option Operator) (rest : List ℕ) (p : Operator × List ℕ) → with_rest found rest ≡ Some p → rest ≡ p.1
+rest-kept None rest p h = absurd cc
+rest-kept (Some o) rest p h = let e : ◌≡◌ {A = Operator × List ℕ} (o, rest) p = cc in ap (λ (p : Operator × List ℕ). p.1) e
 
-double-found : (b : ℕ) (c : Comparison) → double_sign b ≡ Some c → (sign c ≡ b ∷ 61 ∷ []) × ((rest : List ℕ) → goes_on (tokens.Compare c) rest ≡ false)
-double-found b c h = elim (cases_Bool (eqb b 126)) [
-  | inl same ↦ let g = (rw same at h) in let e : comparisons.Compatible ≡ c = cc in let n = eqb-true b 126 same in rw (← e, n) (refl, λ rest. refl)
-  | inr x ↦ elim (cases_Bool (eqb b 61)) [
-    | inl same ↦ let g = (rw (x, same) at h) in let e : comparisons.Equal ≡ c = cc in let n = eqb-true b 61 same in rw (← e, n) (refl, λ rest. refl)
-    | inr y ↦ elim (cases_Bool (eqb b 33)) [
-      | inl same ↦ let g = (rw (x, y, same) at h) in let e : comparisons.NotEqual ≡ c = cc in let n = eqb-true b 33 same in rw (← e, n) (refl, λ rest. refl)
-      | inr z ↦ elim (cases_Bool (eqb b 60)) [
-        | inl same ↦ let g = (rw (x, y, z, same) at h) in let e : comparisons.AtMost ≡ c = cc in let n = eqb-true b 60 same in rw (← e, n) (refl, λ rest. refl)
-        | inr v ↦ elim (cases_Bool (eqb b 62)) [
-          | inl same ↦ let g = (rw (x, y, z, v, same) at h) in let e : comparisons.AtLeast ≡ c = cc in let n = eqb-true b 62 same in rw (← e, n) (refl, λ rest. refl)
-          | inr u ↦ absurd (let g = (rw (x, y, z, v, u) at h) in cc)
-        ]
-      ]
-    ]
-  ]
+-- no `=` follows an operator of one character
+no-equal : (b : ℕ) (rest : List ℕ) (p : Operator × List ℕ) → operator_of (b ∷ rest) ≡ Some p → rest ≡ p.1 → starts_equal p.1 ≡ false
+no-equal b [] p h same = rw (← same) refl
+no-equal b (c ∷ rest) p h same = elim (cases_Bool (eqb c 61)) [
+  | inl equal ↦ absurd (
+      let kept = rest-kept (double_of b) rest p (rw equal at h) in
+      let size : length (c ∷ rest) ≡ length rest = ap (λ (t : List ℕ). length t) (same ∙ sym kept) in
+      omega arith)
+  | inr other ↦ rw (← same) other
 ]
 
-single-found : (b : ℕ) (c : Comparison) → single_sign b ≡ Some c → (sign c ≡ b ∷ []) × ((rest : List ℕ) → goes_on (tokens.Compare c) rest ≡ starts_equal rest)
-single-found b c h = elim (cases_Bool (eqb b 60)) [
-  | inl same ↦ let g = (rw same at h) in let e : comparisons.Below ≡ c = cc in let n = eqb-true b 60 same in rw (← e, n) (refl, λ rest. refl)
-  | inr x ↦ elim (cases_Bool (eqb b 62)) [
-    | inl same ↦ let g = (rw (x, same) at h) in let e : comparisons.Above ≡ c = cc in let n = eqb-true b 62 same in rw (← e, n) (refl, λ rest. refl)
-    | inr y ↦ absurd (let g = (rw (x, y) at h) in cc)
-  ]
-]
+sign-ends : (o : Operator) (b : ℕ) (rest after : List ℕ) → operator_of (b ∷ rest) ≡ Some (o, after) → b ∷ rest ≡ operator_sign o ++ after → goes_on (tokens.Compare (comparison_of o)) after ≡ false
+sign-ends operators.Compatible b rest after h e = refl
+sign-ends operators.Equal b rest after h e = refl
+sign-ends operators.NotEqual b rest after h e = refl
+sign-ends operators.EqualPrefix b rest after h e = refl
+sign-ends operators.NotEqualPrefix b rest after h e = refl
+sign-ends operators.AtMost b rest after h e = refl
+sign-ends operators.AtLeast b rest after h e = refl
+sign-ends operators.Below b rest after h e = no-equal b rest (operators.Below, after) h (ap (λ (t : List ℕ). drop 1 t) e)
+sign-ends operators.Above b rest after h e = no-equal b rest (operators.Above, after) h (ap (λ (t : List ℕ). drop 1 t) e)
 
-sign_at-found : (b : ℕ) (rest : List ℕ) (t : Token) (k : ℕ) → sign_at b rest ≡ Some (t, k) → First (b ∷ rest) t (drop k rest)
-sign_at-found b rest t k h = elim (cases_Bool (starts_equal rest)) [
-  | inl equal ↦
-      let g = (rw equal at h) in
-      let p = some-map (λ (c : Comparison). let found : Token × ℕ = (tokens.Compare c, 1) in found) (double_sign b) (t, k) g in
-      let d = double-found b p.0 p.1 in
-      let token : tokens.Compare p.0 ≡ t = ap (λ (found : Token × ℕ). found.0) p.2 in
-      let count : 1 ≡ k = ap (λ (found : Token × ℕ). found.1) p.2 in
-      moved (b ∷ rest) (tokens.Compare p.0) t (drop 1 rest) (drop k rest) token (ap (λ (k : ℕ). drop k rest) count)
-      (record {
-        first = b ∷ 61 ∷ [];
-        whole = ap (λ (t : List ℕ). b ∷ t) (starts_equal-cut rest equal);
-        is_token = sym d.0;
-        ends = d.1 (drop 1 rest);
-      })
-  | inr other ↦
-      let g = (rw other at h) in
-      let p = some-map (λ (c : Comparison). let found : Token × ℕ = (tokens.Compare c, 0) in found) (single_sign b) (t, k) g in
-      let d = single-found b p.0 p.1 in
-      let token : tokens.Compare p.0 ≡ t = ap (λ (found : Token × ℕ). found.0) p.2 in
-      let count : 0 ≡ k = ap (λ (found : Token × ℕ). found.1) p.2 in
-      moved (b ∷ rest) (tokens.Compare p.0) t rest (drop k rest) token (ap (λ (k : ℕ). drop k rest) count)
-      (record { first = b ∷ []; whole = refl; is_token = sym d.0; ends = d.1 rest ∙ other })
-]
+-- an operator has a first character, and is written as its comparison
+sign-size : (o : Operator) → length (operator_sign o) ≡ suc (length (operator_sign o) - 1)
+sign-size operators.Compatible = refl
+sign-size operators.Equal = refl
+sign-size operators.NotEqual = refl
+sign-size operators.EqualPrefix = refl
+sign-size operators.NotEqualPrefix = refl
+sign-size operators.AtMost = refl
+sign-size operators.AtLeast = refl
+sign-size operators.Below = refl
+sign-size operators.Above = refl
+
+pub same-sign : (o : Operator) → sign (comparison_of o) ≡ operator_sign o
+same-sign operators.Compatible = refl
+same-sign operators.Equal = refl
+same-sign operators.NotEqual = refl
+same-sign operators.EqualPrefix = refl
+same-sign operators.NotEqualPrefix = refl
+same-sign operators.AtMost = refl
+same-sign operators.AtLeast = refl
+same-sign operators.Below = refl
+same-sign operators.Above = refl
+
+sign_at-found : (b : ℕ) (rest : List ℕ) (t : Token) (k : ℕ) → sign_at (b ∷ rest) ≡ Some (t, k) → First (b ∷ rest) t (drop k rest)
+sign_at-found b rest t k h =
+    let p = some-map (λ (p : Operator × List ℕ). let found : Token × ℕ = (tokens.Compare (comparison_of p.0), length (operator_sign p.0) - 1) in found) (operator_of (b ∷ rest)) (t, k) h in
+    let o = p.0.0 in
+    let after = p.0.1 in
+    let whole = (operator-cut (b ∷ rest) p.0 p.1).whole in
+    let token : tokens.Compare (comparison_of o) ≡ t = ap (λ (found : Token × ℕ). found.0) p.2 in
+    let count : length (operator_sign o) - 1 ≡ k = ap (λ (found : Token × ℕ). found.1) p.2 in
+    let left : after ≡ drop (length (operator_sign o) - 1) rest =
+    sym (drop-append_seam (operator_sign o) after) ∙ ap (λ (t : List ℕ). drop (length (operator_sign o)) t) (sym whole) ∙ ap (λ (n : ℕ). drop n (b ∷ rest)) (sign-size o) in
+    moved (b ∷ rest) (tokens.Compare (comparison_of o)) t after (drop k rest) token (left ∙ ap (λ (k : ℕ). drop k rest) count)
+    (record { first = operator_sign o; whole = whole; is_token = sym (same-sign o); ends = sign-ends o b rest after p.1 whole })
 
 some-parts : (p q : Token × ℕ) → Some p ≡ Some q → (p.0 ≡ q.0) × (p.1 ≡ q.1)
 some-parts p q h =

@@ -1,27 +1,34 @@
 -- How two texts compare in a marker (PEP 508, "Environment Markers").
-use Rattle.std.specs.Prelude.{ℕ, ◌==◌, Bool, false, not, List, ◌++◌, Option, Some, None, if◌then◌else◌, codes}
+use Rattle.std.specs.Prelude.{ℕ, ◌==◌, Bool, false, not, List, ◌++◌, Option, Some, None, if◌then◌else◌}
 use Rattle.std.specs.Cmp.Lexicographic.{slice_cmp}
 use Rattle.std.specs.List.{list_any}
 use Rattle.std.specs.Ordering.{is_eq, is_ge, is_gt, is_le, is_lt, nat_cmp}
 use Rattle.std.specs.Result.{result_ok}
 use Rattle.std.specs.declared.cmp.Ordering.{Ordering}
 use Rattle.pep440.specs.Matching.{matches}
+use Rattle.pep440.specs.SetGrammar.{sign as operator_sign}
 use Rattle.pep440.specs.Tied.Reading.{version_of}
 use Rattle.pep440.specs.Tied.Sets.{set_of}
 use Rattle.pep440.specs.Version.{VersionParts}
 use Rattle.pep440.specs.declared.specifier.Clause.{Clause}
+use Rattle.pep440.specs.declared.specifier.Operator.{Operator}
+use Rattle.pep440.specs.declared.specifier.Operator.TheVariants as operators
 use Rattle.markers.specs.declared.comparison.Comparison.{Comparison}
 use Rattle.markers.specs.declared.comparison.Comparison.TheVariants as comparisons
 
+-- the operator of a clause that is written as a comparison is
+abbrev pub operator_of : Comparison → Operator
+operator_of comparisons.Compatible = operators.Compatible
+operator_of comparisons.Equal = operators.Equal
+operator_of comparisons.NotEqual = operators.NotEqual
+operator_of comparisons.AtMost = operators.AtMost
+operator_of comparisons.AtLeast = operators.AtLeast
+operator_of comparisons.Below = operators.Below
+operator_of comparisons.Above = operators.Above
+
 -- how a comparison is written
 abbrev pub sign : Comparison → List ℕ
-sign comparisons.Compatible = codes "~="
-sign comparisons.Equal = codes "=="
-sign comparisons.NotEqual = codes "!="
-sign comparisons.AtMost = codes "<="
-sign comparisons.AtLeast = codes ">="
-sign comparisons.Below = codes "<"
-sign comparisons.Above = codes ">"
+sign comparison = operator_sign (operator_of comparison)
 
 -- the version that a text reads as, or none (PEP 440, "Version scheme")
 unfoldable pub version_read : List ℕ → Option VersionParts

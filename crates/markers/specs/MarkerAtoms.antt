@@ -5,13 +5,13 @@ use Rattle.markers.specs.Comparisons.{compares}
 use Rattle.markers.specs.Environment.{Texts, text_of}
 use Rattle.markers.specs.declared.marker_atom.Operand.{Operand}
 use Rattle.markers.specs.declared.marker_atom.Operand.TheVariants.{Variable, Quoted}
-use Rattle.markers.specs.declared.marker_atom.Operator.{Operator}
-use Rattle.markers.specs.declared.marker_atom.Operator.TheVariants.{Compare, In, NotIn}
+use Rattle.markers.specs.declared.marker_atom.MarkerOperator.{MarkerOperator}
+use Rattle.markers.specs.declared.marker_atom.MarkerOperator.TheVariants.{Compare, In, NotIn}
 
 -- two operands with an operator between them
 pub record Relation : Type 0 where
   pub left : Operand
-  pub operator : Operator
+  pub operator : MarkerOperator
   pub right : Operand
 
 -- the text that an operand has
@@ -31,7 +31,7 @@ contains [] part = begins_with [] part
 contains (b ∷ text) part = begins_with (b ∷ text) part || contains text part
 
 -- whether an operator relates the left text to the right one
-abbrev pub relates : Operator → List ℕ → List ℕ → Bool
+abbrev pub relates : MarkerOperator → List ℕ → List ℕ → Bool
 relates (Compare comparison) left right = compares comparison left right
 relates In left right = contains right left
 relates NotIn left right = not (contains right left)

@@ -9,8 +9,8 @@ use Rattle.markers.specs.declared.marker_atom.Atom.{Atom}
 use Rattle.markers.specs.declared.marker_atom.Atom.TheVariants as atoms
 use Rattle.markers.specs.declared.marker_atom.Operand.{Operand}
 use Rattle.markers.specs.declared.marker_atom.Operand.TheVariants.{Quoted}
-use Rattle.markers.specs.declared.marker_atom.Operator.{Operator}
-use Rattle.markers.specs.declared.marker_atom.Operator.TheVariants as operators
+use Rattle.markers.specs.declared.marker_atom.MarkerOperator.{MarkerOperator}
+use Rattle.markers.specs.declared.marker_atom.MarkerOperator.TheVariants as operators
 use Rattle.markers.specs.declared.marker_token.Side.TheVariants as sides
 use Rattle.markers.specs.declared.marker_token.Token.{Token}
 use Rattle.markers.specs.declared.marker_token.Token.TheVariants as tokens
@@ -20,7 +20,7 @@ abbrev pub operand_token : Operand → Token
 operand_token operand = tokens.Side (sides.Operand operand)
 
 -- `not in` is two tokens, any other operator one
-abbrev pub operator_tokens : Operator → List Token
+abbrev pub operator_tokens : MarkerOperator → List Token
 operator_tokens (operators.Compare comparison) = tokens.Compare comparison ∷ []
 operator_tokens operators.In = tokens.In ∷ []
 operator_tokens operators.NotIn = tokens.Not ∷ tokens.In ∷ []

@@ -2,44 +2,67 @@
 
 ghost use Rattle.std.specs.Prelude.{◌≡◌, IfOk};
 ghost use Rattle.std.specs.Option.{option_copied};
-ghost use Rattle.markers.specs.Comparisons.{clauses_read, compares, has_comma, sign, text_compares, version_read};
+ghost use Rattle.markers.specs.Comparisons.{clauses_read, compares, has_comma, operator_of, sign, text_compares, version_read};
+ghost use Rattle.markers.specs.Tied.MarkerTokens.{comparison_of};
 
-use pep440::{Fault as SpecifierFault, SpecifierSet, Version};
+use pep440::{Fault as SpecifierFault, Operator, SpecifierSet, Version};
 use std::alloc::{AllocError, Global};
 
 /// How a marker compares two texts that may be versions (PEP 508, "Environment Markers").
 #[derive(Clone, Copy, Debug, PartialEq, Eq)]
 pub enum Comparison {
-    /// `~=`
+    /// `python_full_version ~= "3.9.2"`: 3.9.2 or newer, and still 3.9
     Compatible,
-    /// `==`
+    /// `os_name == "posix"`: this text, or an equal version
     Equal,
-    /// `!=`
+    /// `os_name != "nt"`: any other text or version
     NotEqual,
-    /// `<=`
+    /// `python_version <= "3.9"`: 3.9 or older
     AtMost,
-    /// `>=`
+    /// `python_version >= "3.9"`: 3.9 or newer
     AtLeast,
-    /// `<`
+    /// `python_version < "3.9"`: older than 3.9
     Below,
-    /// `>`
+    /// `python_version > "3.9"`: newer than 3.9
     Above,
 }
 
 impl Comparison {
+    /// The comparison that is written as an operator is before its version.
+    pub fn of(operator: Operator) -> Comparison
+        ensures { result ≡ comparison_of operator }
+    {
+        match operator {
+            Operator::Compatible => Comparison::Compatible,
+            Operator::Equal | Operator::EqualPrefix => Comparison::Equal,
+            Operator::NotEqual | Operator::NotEqualPrefix => Comparison::NotEqual,
+            Operator::AtMost => Comparison::AtMost,
+            Operator::AtLeast => Comparison::AtLeast,
+            Operator::Below => Comparison::Below,
+            Operator::Above => Comparison::Above,
+        }
+    }
+
+    /// The operator of a clause that is written so, with no `.*` behind its version.
+    pub fn operator(self) -> Operator
+        ensures { result ≡ operator_of self }
+    {
+        match self {
+            Comparison::Compatible => Operator::Compatible,
+            Comparison::Equal => Operator::Equal,
+            Comparison::NotEqual => Operator::NotEqual,
+            Comparison::AtMost => Operator::AtMost,
+            Comparison::AtLeast => Operator::AtLeast,
+            Comparison::Below => Operator::Below,
+            Comparison::Above => Operator::Above,
+        }
+    }
+
     /// How the comparison is written.
     pub fn sign(self) -> &'static str
         ensures { result.now ≡ sign self }
     {
-        match self {
-            Comparison::Compatible => "~=",
-            Comparison::Equal => "==",
-            Comparison::NotEqual => "!=",
-            Comparison::AtMost => "<=",
-            Comparison::AtLeast => ">=",
-            Comparison::Below => "<",
-            Comparison::Above => ">",
-        }
+        self.operator().sign()
     }
 }
 

@@ -13,13 +13,11 @@ ghost use Rattle.markers.specs.declared.fault.Cause.TheVariants.{OutOfMemory};
 
 use crate::environment::Environment;
 use crate::fault::{Cause, Fault};
-use crate::marker_atom::Atom as MarkerAtom;
-use crate::marker_extras::NamedExtras;
+use crate::marker_atom::{Atom as MarkerAtom, CachedRelation};
 use crate::marker_reader::tree_of;
-use crate::marker_relations::Relations;
 use crate::marker_token::is_too_deep;
 use crate::name::Name;
-use lists::{Faithful, Seq};
+use lists::{Faithful, Lent, Seq};
 use std::alloc::{AllocError, Global};
 use std::marker::Model;
 
@@ -135,20 +133,20 @@ impl Marker {
     }
 
     /// The relations in the marker, in their order: what it asks of an environment.
-    pub fn relations(&self, alloc: Global) -> Result<Relations<'_>, AllocError>
+    pub fn relations(&self, alloc: Global) -> Result<Lent<'_, CachedRelation>, AllocError>
         ensures { IfOk result (λ relations. relations ≡ relations_in self.now) }
     {
-        let mut found = Relations::new(alloc);
+        let mut found = Lent::new(alloc);
         gather(self, &mut found)?;
         Ok(found)
     }
 
     /// The extras that the marker names, in their order: with another extra it holds where it holds with
     /// none.
-    pub fn extras(&self, alloc: Global) -> Result<NamedExtras<'_>, AllocError>
+    pub fn extras(&self, alloc: Global) -> Result<Lent<'_, Name>, AllocError>
         ensures { IfOk result (λ extras. extras ≡ extras_in self.now) }
     {
-        let mut found = NamedExtras::new(alloc);
+        let mut found = Lent::new(alloc);
         gather_extras(self, &mut found)?;
         Ok(found)
     }
@@ -181,7 +179,7 @@ fn any_holds(members: &[Marker], environment: &Environment, extra: Option<&Name>
 
 /// Puts the relations of a marker behind those that were found. It goes no deeper than the parentheses nest.
 #[cycle(gather)]
-fn gather<'m>(marker: &'m Marker, found: &mut Relations<'m>) -> Result<(), AllocError>
+fn gather<'m>(marker: &'m Marker, found: &mut Lent<'m, CachedRelation>) -> Result<(), AllocError>
     ensures { IfOk result (λ _. found.new ≡ found.old ++ relations_in marker.now) }
 {
     match &marker.node {
@@ -202,7 +200,10 @@ fn gather<'m>(marker: &'m Marker, found: &mut Relations<'m>) -> Result<(), Alloc
 }
 
 #[cycle(gather)]
-fn gather_members<'m>(members: &'m [Marker], found: &mut Relations<'m>) -> Result<(), AllocError>
+fn gather_members<'m>(
+    members: &'m [Marker],
+    found: &mut Lent<'m, CachedRelation>,
+) -> Result<(), AllocError>
     ensures { IfOk result (λ _. found.new
         ≡ found.old ++ relations_among (trees_of members.now)) }
 {
@@ -214,7 +215,7 @@ fn gather_members<'m>(members: &'m [Marker], found: &mut Relations<'m>) -> Resul
 
 /// Puts the extras that a marker names behind those that were found. It goes no deeper than the parentheses nest.
 #[cycle(gather_extras)]
-fn gather_extras<'m>(marker: &'m Marker, found: &mut NamedExtras<'m>) -> Result<(), AllocError>
+fn gather_extras<'m>(marker: &'m Marker, found: &mut Lent<'m, Name>) -> Result<(), AllocError>
     ensures { IfOk result (λ _. found.new ≡ found.old ++ extras_in marker.now) }
 {
     match &marker.node {
@@ -239,7 +240,7 @@ fn gather_extras<'m>(marker: &'m Marker, found: &mut NamedExtras<'m>) -> Result<
 #[cycle(gather_extras)]
 fn gather_extras_of_members<'m>(
     members: &'m [Marker],
-    found: &mut NamedExtras<'m>,
+    found: &mut Lent<'m, Name>,
 ) -> Result<(), AllocError>
     ensures { IfOk result (λ _. found.new ≡ found.old ++ extras_among (trees_of members.now)) }
 {

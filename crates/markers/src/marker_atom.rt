@@ -5,7 +5,7 @@ ghost use Rattle.std.specs.Option.{option_copied};
 ghost use Rattle.markers.specs.Comparisons.{clauses_read, version_read};
 ghost use Rattle.markers.specs.MarkerAtoms.{contains, is_asked, operand_text, relation_holds};
 ghost use Rattle.markers.specs.Tied.Known.{known_clauses, known_version};
-ghost use Rattle.markers.specs.declared.marker_atom.Operator.TheVariants.{Compare};
+ghost use Rattle.markers.specs.declared.marker_atom.MarkerOperator.TheVariants.{Compare};
 
 use crate::comparison::{Comparison, Left, Right, compare, read_clauses, read_version};
 use crate::environment::Environment;
@@ -38,7 +38,7 @@ impl Clone for Operand {
 
 /// How the left operand is to relate to the right one.
 #[derive(Clone, Copy)]
-pub enum Operator {
+pub enum MarkerOperator {
     /// `==`, `<=` and the others.
     Compare(Comparison),
     /// `in`: the right text has the left one in it.
@@ -51,7 +51,7 @@ pub enum Operator {
 /// the operands and the operator alone.
 pub struct CachedRelation {
     left: Operand,
-    operator: Operator,
+    operator: MarkerOperator,
     right: Operand,
     version: Option<Version>,
     clauses: Option<SpecifierSet>,
@@ -149,13 +149,13 @@ fn known_version(alloc: Global, operand: &Operand) -> Result<Option<Version>, Al
 /// The clauses that an operand is known to read as behind an operator.
 fn known_clauses(
     alloc: Global,
-    operator: Operator,
+    operator: MarkerOperator,
     operand: &Operand,
 ) -> Result<Option<SpecifierSet>, AllocError>
     ensures { IfOk result (λ clauses. clauses ≡ known_clauses operator operand.now) }
 {
     match (operator, operand) {
-        (Operator::Compare(comparison), Operand::Quoted(text)) => {
+        (MarkerOperator::Compare(comparison), Operand::Quoted(text)) => {
             read_clauses(alloc, comparison, text.as_str())
         }
         _ => Ok(None),
@@ -167,7 +167,7 @@ impl CachedRelation {
     pub(crate) fn read(
         alloc: Global,
         left: Operand,
-        operator: Operator,
+        operator: MarkerOperator,
         right: Operand,
     ) -> Result<CachedRelation, AllocError>
         ensures { IfOk result (λ r. r
@@ -192,7 +192,7 @@ impl CachedRelation {
     }
 
     /// How the left operand is to relate to the right one.
-    pub fn operator(&self) -> Operator
+    pub fn operator(&self) -> MarkerOperator
         ensures { result ≡ self.now.operator }
     {
         self.operator
@@ -246,7 +246,7 @@ impl CachedRelation {
         let left = self.left.text(environment);
         let right = self.right.text(environment);
         match self.operator {
-            Operator::Compare(comparison) => {
+            MarkerOperator::Compare(comparison) => {
                 let version = self.version(environment);
                 let clauses = self.clauses(environment, comparison);
                 compare(
@@ -261,8 +261,8 @@ impl CachedRelation {
                     },
                 )
             }
-            Operator::In => contains(right, left),
-            Operator::NotIn => !contains(right, left),
+            MarkerOperator::In => contains(right, left),
+            MarkerOperator::NotIn => !contains(right, left),
         }
     }
 }

@@ -10,7 +10,7 @@ ghost use Rattle.markers.specs.declared.fault.Cause.TheVariants.{BadMarker, OutO
 use crate::comparison::Comparison;
 use crate::fault::Cause;
 use crate::marker::Marker;
-use crate::marker_atom::{Atom, CachedRelation, Operand, Operator};
+use crate::marker_atom::{Atom, CachedRelation, MarkerOperator, Operand};
 use crate::marker_group::Group;
 use crate::marker_stack::Stack;
 use crate::marker_token;
@@ -29,7 +29,7 @@ pub(crate) enum Expected {
     /// `in`, behind the left side and `not`.
     In(Side),
     /// The right side, behind the left one and the operator.
-    Right(Side, Operator),
+    Right(Side, MarkerOperator),
     /// What joins atoms or ends them.
     Joint,
 }
@@ -55,15 +55,15 @@ fn name_in(alloc: Global, text: &str) -> Result<Option<Name>, AllocError>
 }
 
 /// The atom that compares `extra` with an operand.
-fn extra_atom(alloc: Global, operator: Operator, operand: Operand) -> Result<Atom, Cause>
+fn extra_atom(alloc: Global, operator: MarkerOperator, operand: Operand) -> Result<Atom, Cause>
     ensures { Answers OutOfMemory (ok_or (extra_atom operator operand) BadMarker) result }
 {
     let Operand::Quoted(text) = operand else {
         return Err(Cause::BadMarker);
     };
     let equal = match operator {
-        Operator::Compare(Comparison::Equal) => true,
-        Operator::Compare(Comparison::NotEqual) => false,
+        MarkerOperator::Compare(Comparison::Equal) => true,
+        MarkerOperator::Compare(Comparison::NotEqual) => false,
         _ => return Err(Cause::BadMarker),
     };
     let name = name_in(alloc, text.as_str())?;
@@ -72,7 +72,7 @@ fn extra_atom(alloc: Global, operator: Operator, operand: Operand) -> Result<Ato
 
 /// The atom of two sides and what stands between them.
 #[tactic(auto, unfolding(crate::specs::Tied::MarkerReading::atom_of))]
-fn atom_of(alloc: Global, left: Side, operator: Operator, right: Side) -> Result<Atom, Cause>
+fn atom_of(alloc: Global, left: Side, operator: MarkerOperator, right: Side) -> Result<Atom, Cause>
     ensures { Answers OutOfMemory (ok_or (atom_of left operator right) BadMarker) result }
 {
     match left {
@@ -122,8 +122,8 @@ fn relate(outer: Stack<Group>, group: Group, left: Side, token: Token) -> Result
     ensures { result ≡ ok_or (relate outer group left token) BadMarker }
 {
     let expected = match token {
-        Token::Compare(comparison) => Expected::Right(left, Operator::Compare(comparison)),
-        Token::In => Expected::Right(left, Operator::In),
+        Token::Compare(comparison) => Expected::Right(left, MarkerOperator::Compare(comparison)),
+        Token::In => Expected::Right(left, MarkerOperator::In),
         Token::Not => Expected::In(left),
         _ => return Err(Cause::BadMarker),
     };
@@ -142,7 +142,7 @@ fn negate(outer: Stack<Group>, group: Group, left: Side, token: Token) -> Result
         Token::In => Ok(Reader {
             outer,
             group,
-            expected: Expected::Right(left, Operator::NotIn),
+            expected: Expected::Right(left, MarkerOperator::NotIn),
         }),
         _ => Err(Cause::BadMarker),
     }
@@ -154,7 +154,7 @@ fn complete(
     outer: Stack<Group>,
     group: Group,
     left: Side,
-    operator: Operator,
+    operator: MarkerOperator,
     token: Token,
 ) -> Result<Reader, Cause>
     ensures { Answers OutOfMemory

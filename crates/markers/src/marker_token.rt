@@ -4,8 +4,8 @@ ghost use Rattle.lists.specs.Answers.{Answers};
 ghost use Rattle.std.specs.Prelude.{◌≡◌, ok_or, option_copied};
 ghost use Rattle.std.specs.Str.{IsAscii};
 ghost use Rattle.markers.specs.MarkerDepth.{is_too_deep, quote_after};
-ghost use Rattle.markers.specs.MarkerSpelling.{is_quotable, is_quote, is_word_byte, starts_equal};
-ghost use Rattle.markers.specs.Tied.MarkerTokens.{double_sign, quoted_at, quoted_text, sign_at, single_sign, token_at, word_at, word_of, word_token};
+ghost use Rattle.markers.specs.MarkerSpelling.{is_quotable, is_quote, is_word_byte};
+ghost use Rattle.markers.specs.Tied.MarkerTokens.{quoted_at, quoted_text, sign_at, token_at, word_at, word_of, word_token};
 ghost use Rattle.markers.specs.declared.fault.Cause.TheVariants.{BadMarker, OutOfMemory};
 
 use crate::comparison::Comparison;
@@ -13,6 +13,7 @@ use crate::environment::variable_named;
 use crate::fault::Cause;
 use crate::marker_atom::Operand;
 use lists::Text;
+use pep440::operator_of;
 use std::alloc::Global;
 use std::str;
 
@@ -177,47 +178,13 @@ fn word_at(text: &[u8]) -> Option<(Token, usize)>
     Some((token, word.len().saturating_sub(1)))
 }
 
-/// The comparison of two characters, the second of them `=`.
-fn double_sign(byte: u8) -> Option<Comparison>
-    ensures { result ≡ double_sign byte }
+/// The longest comparison that a text begins with.
+fn sign_at(text: &[u8]) -> Option<(Token, usize)>
+    ensures { result ≡ sign_at text.now }
 {
-    match byte {
-        b'~' => Some(Comparison::Compatible),
-        b'=' => Some(Comparison::Equal),
-        b'!' => Some(Comparison::NotEqual),
-        b'<' => Some(Comparison::AtMost),
-        b'>' => Some(Comparison::AtLeast),
-        _ => None,
-    }
-}
-
-fn single_sign(byte: u8) -> Option<Comparison>
-    ensures { result ≡ single_sign byte }
-{
-    match byte {
-        b'<' => Some(Comparison::Below),
-        b'>' => Some(Comparison::Above),
-        _ => None,
-    }
-}
-
-fn starts_equal(text: &[u8]) -> bool
-    ensures { result ≡ starts_equal text.now }
-{
-    match text {
-        [first, ..] => *first == b'=',
-        [] => false,
-    }
-}
-
-/// The longest comparison that begins with a byte, behind which the text stands.
-fn sign_at(byte: u8, rest: &[u8]) -> Option<(Token, usize)>
-    ensures { result ≡ sign_at byte rest.now }
-{
-    if starts_equal(rest) {
-        return Some((Token::Compare(double_sign(byte)?), 1));
-    }
-    Some((Token::Compare(single_sign(byte)?), 0))
+    let (operator, _) = operator_of(text)?;
+    let behind = operator.sign().len().saturating_sub(1);
+    Some((Token::Compare(Comparison::of(operator)), behind))
 }
 
 /// The token that a text begins with, and how many bytes of it stand behind the first.
@@ -238,7 +205,7 @@ pub(crate) fn token_at(alloc: Global, text: &[u8]) -> Result<(Token, usize), Cau
     } else if *first == b')' {
         Some((Token::Close, 0))
     } else {
-        sign_at(*first, rest)
+        sign_at(text)
     };
     found.ok_or(Cause::BadMarker)
 }

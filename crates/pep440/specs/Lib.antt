@@ -1,4 +1,5 @@
 pub mod Text
+pub mod Blanks
 pub mod Version
 pub mod Order
 pub mod Canonical

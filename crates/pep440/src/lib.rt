@@ -9,6 +9,7 @@
 //! ```
 #![tactic(auto)]
 
+mod blank;
 mod display;
 mod fault;
 pub mod laws;
@@ -27,5 +28,6 @@ mod words;
 pub use crate::fault::Fault;
 pub use crate::parts::{LocalPart, Pre};
 pub use crate::requires_python::RequiresPython;
+pub use crate::sets::operator_of;
 pub use crate::specifier::{Clause, Operator, SpecifierSet};
 pub use crate::version::Version;

@@ -3,13 +3,13 @@
 ghost use Rattle.std.specs.Prelude.{◌≡◌, ◌+◌, ◌-◌, ◌*◌, ◌^◌, ◌<◌, ◌≤◌, ◌∷◌, [], false, true, length, take, drop, map, Some, IfNone, IfOk, IfSome, IsOkUnless};
 ghost use Rattle.std.specs.Char.{is_ascii_alphanumeric, is_ascii_digit, to_ascii_lowercase};
 ghost use Rattle.std.specs.List.{list_all};
-ghost use Rattle.pep440.specs.Grammar.{Spells, is_separator, is_space, value_from, ParseAnswers};
+ghost use Rattle.pep440.specs.Grammar.{Spells, is_separator, value_from, ParseAnswers};
 ghost use Rattle.pep440.specs.Answers.{Gives};
 ghost use Rattle.pep440.specs.Tied.Reading.{fitting, fitting_numbers, is_local_from, locals_from, locals_of, numbers_from, part_of, parts_in, pre_with, version_of};
-ghost use Rattle.pep440.specs.Text.{trim_end, trim_front};
 ghost use Rattle.pep440.specs.Version.{VersionParts, fits};
 ghost use Rattle.pep440.specs.Tied.Views.{capped, capped_option, capped_pre, fitting_locals, fitting_part, is_local, span_view};
 
+use crate::blank::{self, Blank};
 use crate::fault::Fault;
 use crate::parts::{LocalPart, Pre};
 use crate::spans::SpannedText;
@@ -191,38 +191,11 @@ pub(crate) fn version_of_spans(alloc: Global, spans: &SpannedText) -> Result<Ver
     })
 }
 
-fn is_space(byte: u8) -> bool
-    ensures { result ≡ is_space byte }
-{
-    byte == b' ' || (byte >= b'\t' && byte <= b'\r')
-}
-
-fn trim_space_front(text: &[u8]) -> &[u8]
-    ensures { result.now ≡ trim_front is_space text.now }
-{
-    for i in 0..text.len() {
-        if !is_space(text[i]) {
-            return &text[i..];
-        }
-    }
-    &text[text.len()..]
-}
-
-fn trim_space_end(text: &[u8]) -> &[u8]
-    ensures { result.now ≡ trim_end is_space text.now }
-{
-    let mut len = text.len();
-    while len > 0 && is_space(text[len - 1]) {
-        len -= 1;
-    }
-    &text[..len]
-}
-
 /// The version that a text spells, white space around it or not.
 fn version_at(alloc: Global, text: &[u8]) -> Result<Version, Fault>
     ensures { Gives (λ v. v) result (version_of text.now) }
 {
-    let Some(spans) = spans::spans_of(trim_space_end(trim_space_front(text))) else {
+    let Some(spans) = spans::spans_of(blank::trim(Blank::Space, text)) else {
         return Err(Fault::BadVersion);
     };
     version_of_spans(alloc, &spans)

@@ -8,8 +8,9 @@ ghost use Rattle.pep440.specs.SetGrammar.{is_release_alone, takes};
 ghost use Rattle.pep440.specs.Tied.Sets.{clause_of, clauses_from, double_of, clause_text, ends_in_star, is_arbitrary, operator_of, set_of, single_of, star_operator, version_text};
 ghost use Rattle.pep440.specs.Tied.Views.{operator_view, span_view};
 ghost use Rattle.lists.specs.Spaces.{is_space_or_tab};
-ghost use Rattle.pep440.specs.Text.{pieces, trim_blank, trim_end, trim_front};
+ghost use Rattle.pep440.specs.Text.{pieces, trim_blank};
 
+use crate::blank::{self, Blank};
 use crate::fault::Fault;
 use crate::spans::SpannedText;
 use crate::specifier::{Clause, Operator, SpecifierSet};
@@ -23,31 +24,11 @@ fn are_blank(text: &[u8]) -> bool
     text.iter().all(|byte| is_space_or_tab(*byte))
 }
 
-fn trim_front(text: &[u8]) -> &[u8]
-    ensures { result.now ≡ trim_front is_space_or_tab text.now }
-{
-    for i in 0..text.len() {
-        if !is_space_or_tab(text[i]) {
-            return &text[i..];
-        }
-    }
-    &text[text.len()..]
-}
-
-fn trim_end(text: &[u8]) -> &[u8]
-    ensures { result.now ≡ trim_end is_space_or_tab text.now }
-{
-    let mut len = text.len();
-    while len > 0 && is_space_or_tab(text[len - 1]) {
-        len -= 1;
-    }
-    &text[..len]
-}
-
+/// The text without the spaces and tabs around it.
 fn trim_blank(text: &[u8]) -> &[u8]
     ensures { result.now ≡ trim_blank text.now }
 {
-    trim_end(trim_front(text))
+    blank::trim(Blank::SpaceOrTab, text)
 }
 
 /// The place of the first comma.
@@ -89,8 +70,8 @@ fn single_of(first: u8) -> Option<Operator>
     }
 }
 
-/// The longest operator that begins a piece, and the text behind it.
-fn operator_of(piece: &[u8]) -> Option<(Operator, &[u8])>
+/// The longest operator that begins a text, read without `.*`, and the text behind it.
+pub fn operator_of(piece: &[u8]) -> Option<(Operator, &[u8])>
     ensures { operator_view result ≡ operator_of piece.now }
 {
     match piece {
@@ -206,7 +187,8 @@ fn clause_at(alloc: Global, piece: &[u8], place: usize) -> Result<Clause, Fault>
     let Some((operator, rest)) = operator_of(piece) else {
         return Err(Fault::BadClause(place));
     };
-    clause_text(alloc, operator, trim_front(rest), place)
+    let version = blank::trim_front(Blank::SpaceOrTab, rest);
+    clause_text(alloc, operator, version, place)
 }
 
 /// Whether the last piece is what may stand behind a trailing comma.

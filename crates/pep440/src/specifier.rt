@@ -2,7 +2,7 @@
 
 ghost use Rattle.std.specs.Prelude.{◌≡◌};
 ghost use Rattle.std.specs.List.{AllByRecursion};
-ghost use Rattle.pep440.specs.SetGrammar.{IsLawfulClause};
+ghost use Rattle.pep440.specs.SetGrammar.{IsLawfulClause, sign, star};
 
 use crate::version::Version;
 use lists::{Faithful, Seq};
@@ -12,24 +12,57 @@ use std::marker::Model;
 /// How a clause compares a candidate with its version (PEP 440, "Version specifiers").
 #[derive(Clone, Copy, Debug, PartialEq, Eq)]
 pub enum Operator {
-    /// `~=V`
+    /// `~=1.4.2`: 1.4.2 or newer, and still 1.4
     Compatible,
-    /// `==V`
+    /// `==1.4`: 1.4, also written 1.4.0, and with any local part, as 1.4+cpu
     Equal,
-    /// `!=V`
+    /// `!=1.4`: any version that `==1.4` doesn't match
     NotEqual,
-    /// `==V.*`
+    /// `==1.4.*`: each version of 1.4, as 1.4rc1, 1.4 and 1.4.2
     EqualPrefix,
-    /// `!=V.*`
+    /// `!=1.4.*`: any version that `==1.4.*` doesn't match
     NotEqualPrefix,
-    /// `<=V`
+    /// `<=1.4`: 1.4 or older
     AtMost,
-    /// `>=V`
+    /// `>=1.4`: 1.4 or newer
     AtLeast,
-    /// `<V`
+    /// `<1.4`: older than 1.4, and no pre-release of it, as 1.4rc1
     Below,
-    /// `>V`
+    /// `>1.4`: newer than 1.4, and no post-release of it, as 1.4.post1
     Above,
+}
+
+impl Operator {
+    /// How the operator is written before its version.
+    pub fn sign(self) -> &'static str
+        ensures { result.now ≡ sign self }
+    {
+        match self {
+            Operator::Compatible => "~=",
+            Operator::Equal | Operator::EqualPrefix => "==",
+            Operator::NotEqual | Operator::NotEqualPrefix => "!=",
+            Operator::AtMost => "<=",
+            Operator::AtLeast => ">=",
+            Operator::Below => "<",
+            Operator::Above => ">",
+        }
+    }
+
+    /// What the operator has behind its version: `.*`, or nothing.
+    pub fn star(self) -> &'static str
+        ensures { result.now ≡ star self }
+    {
+        match self {
+            Operator::EqualPrefix | Operator::NotEqualPrefix => ".*",
+            Operator::Compatible
+            | Operator::Equal
+            | Operator::NotEqual
+            | Operator::AtMost
+            | Operator::AtLeast
+            | Operator::Below
+            | Operator::Above => "",
+        }
+    }
 }
 
 /// One clause of a set: an operator and its version.

@@ -10,8 +10,8 @@ use Rattle.markers.specs.declared.marker_atom.Atom.{Atom}
 use Rattle.markers.specs.declared.marker_atom.Atom.TheVariants as atoms
 use Rattle.markers.specs.declared.marker_atom.Operand.{Operand}
 use Rattle.markers.specs.declared.marker_atom.Operand.TheVariants as operands
-use Rattle.markers.specs.declared.marker_atom.Operator.{Operator}
-use Rattle.markers.specs.declared.marker_atom.Operator.TheVariants as operators
+use Rattle.markers.specs.declared.marker_atom.MarkerOperator.{MarkerOperator}
+use Rattle.markers.specs.declared.marker_atom.MarkerOperator.TheVariants as operators
 use Rattle.markers.specs.declared.marker_group.Group.{Group}
 use Rattle.markers.specs.declared.marker_reader.Expected.{Expected}
 use Rattle.markers.specs.declared.marker_reader.Expected.TheVariants as expecteds
@@ -24,18 +24,18 @@ use Rattle.markers.specs.declared.marker_token.Token.TheVariants as tokens
 -- ---- atoms
 
 -- an atom that compares `extra`, by `==` or `!=` alone, with a text that is this name or none (PEP 685)
-abbrev pub extra_named : Operator → Option (List ℕ) → Option Atom
+abbrev pub extra_named : MarkerOperator → Option (List ℕ) → Option Atom
 extra_named (operators.Compare comparisons.Equal) name = Some (atoms.Extra true name)
 extra_named (operators.Compare comparisons.NotEqual) name = Some (atoms.Extra false name)
 extra_named operator name = None
 
 -- `extra` is compared with a quoted text alone (reqlock's own rule)
-abbrev pub extra_atom : Operator → Operand → Option Atom
+abbrev pub extra_atom : MarkerOperator → Operand → Option Atom
 extra_atom operator (operands.Variable variable) = None
 extra_atom operator (operands.Quoted text) = extra_named operator (result_ok (name_of text))
 
 -- the atom of two sides and what stands between them
-unfoldable pub atom_of : Side → Operator → Side → Option Atom
+unfoldable pub atom_of : Side → MarkerOperator → Side → Option Atom
 atom_of (sides.Operand left) operator (sides.Operand right) =
     Some (atoms.Relation (record { left = left; operator = operator; right = right }))
 atom_of (sides.Operand left) operator sides.Extra = extra_atom operator left
@@ -83,7 +83,7 @@ added outer group None = None
 added outer group (Some a) = Some (record { outer = outer; group = with_member (atom a) group; expected = expecteds.Joint })
 
 -- behind the operator
-abbrev pub complete : List Group → Group → Side → Operator → Token → Option Reader
+abbrev pub complete : List Group → Group → Side → MarkerOperator → Token → Option Reader
 complete outer group left operator (tokens.Side right) = added outer group (atom_of left operator right)
 complete outer group left operator token = None
 

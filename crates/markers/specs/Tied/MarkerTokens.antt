@@ -5,9 +5,13 @@ use Rattle.std.specs.Prelude.{ℕ, zero, suc, ◌+◌, ◌-◌, ◌==◌, ◌&&�
 use Rattle.std.specs.Option.{option_map}
 use Rattle.std.specs.Str.{bytes_eq}
 use Rattle.lists.specs.Spaces.{is_space_or_tab}
+use Rattle.pep440.specs.SetGrammar.{sign}
+use Rattle.pep440.specs.Tied.Sets.{operator_of}
+use Rattle.pep440.specs.declared.specifier.Operator.{Operator}
+use Rattle.pep440.specs.declared.specifier.Operator.TheVariants as operators
 use Rattle.markers.specs.Environment.{variable_named}
 use Rattle.markers.specs.MarkerDepth.{quote_after}
-use Rattle.markers.specs.MarkerSpelling.{is_quotable, is_quote, is_word_byte, starts_equal}
+use Rattle.markers.specs.MarkerSpelling.{is_quotable, is_quote, is_word_byte}
 use Rattle.markers.specs.declared.comparison.Comparison.{Comparison}
 use Rattle.markers.specs.declared.comparison.Comparison.TheVariants as comparisons
 use Rattle.markers.specs.declared.marker_atom.Operand.TheVariants as operands
@@ -55,24 +59,21 @@ word_token word =
 abbrev pub word_at : List ℕ → Option (Token × ℕ)
 word_at text = option_map (λ token. (token, length (word_of text) - 1)) (word_token (word_of text))
 
--- the comparisons of two characters, by what stands before `=`
-abbrev pub double_sign : ℕ → Option Comparison
-double_sign b =
-    if b == 126 then Some comparisons.Compatible
-    else (if b == 61 then Some comparisons.Equal
-    else (if b == 33 then Some comparisons.NotEqual
-    else (if b == 60 then Some comparisons.AtMost
-    else (if b == 62 then Some comparisons.AtLeast else None))))
+-- the comparison that is written as an operator is before its version
+abbrev pub comparison_of : Operator → Comparison
+comparison_of operators.Compatible = comparisons.Compatible
+comparison_of operators.Equal = comparisons.Equal
+comparison_of operators.NotEqual = comparisons.NotEqual
+comparison_of operators.EqualPrefix = comparisons.Equal
+comparison_of operators.NotEqualPrefix = comparisons.NotEqual
+comparison_of operators.AtMost = comparisons.AtMost
+comparison_of operators.AtLeast = comparisons.AtLeast
+comparison_of operators.Below = comparisons.Below
+comparison_of operators.Above = comparisons.Above
 
--- the comparisons of one character
-abbrev pub single_sign : ℕ → Option Comparison
-single_sign b = if b == 60 then Some comparisons.Below else (if b == 62 then Some comparisons.Above else None)
-
--- the longest comparison that begins with a byte, behind which the text stands
-abbrev pub sign_at : ℕ → List ℕ → Option (Token × ℕ)
-sign_at b rest =
-    if starts_equal rest then option_map (λ comparison. (tokens.Compare comparison, 1)) (double_sign b)
-    else option_map (λ comparison. (tokens.Compare comparison, 0)) (single_sign b)
+-- the longest comparison that a text begins with
+abbrev pub sign_at : List ℕ → Option (Token × ℕ)
+sign_at text = option_map (λ found. (tokens.Compare (comparison_of found.0), length (sign found.0) - 1)) (operator_of text)
 
 -- the token that a text begins with
 unfoldable pub token_at : List ℕ → Option (Token × ℕ)
@@ -80,7 +81,7 @@ token_at [] = None
 token_at (b ∷ rest) =
     if is_quote b then quoted_at b rest
     else (if is_word_byte b then word_at (b ∷ rest)
-    else (if b == 40 then Some (tokens.Open, 0) else (if b == 41 then Some (tokens.Close, 0) else sign_at b rest)))
+    else (if b == 40 then Some (tokens.Open, 0) else (if b == 41 then Some (tokens.Close, 0) else sign_at (b ∷ rest))))
 
 -- a token before others
 abbrev pub before_tokens : Option (Token × ℕ) → (ℕ → Option (List Token)) → Option (List Token)
