@@ -2,3 +2,4 @@ pub mod Lines
 pub mod Parts
 pub mod Requirement
 pub mod Slices
+pub mod Required

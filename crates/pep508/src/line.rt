@@ -4,6 +4,7 @@ ghost use Rattle.lists.specs.Answers.{Answers};
 ghost use Rattle.std.specs.Prelude.{◌≡◌, ◌++◌, Ok, Some, IfOk};
 ghost use Rattle.std.specs.Option.{option_copied};
 ghost use Rattle.pep508.specs.Parts.{IsEnding, ended, ending_of};
+ghost use Rattle.pep508.specs.Required.{counts_in, is_on, required_by};
 ghost use Rattle.pep508.specs.Requirement.{IsLine, RequirementParts, checked_line, requirement_of, wanted_by};
 ghost use Rattle.pep508.specs.Slices.{joined, slices_of, with_version};
 ghost use Rattle.markers.specs.declared.fault.Cause.TheVariants.{OutOfMemory};
@@ -14,7 +15,7 @@ use crate::req_line::ReqLine;
 use crate::requirement::Requirement;
 use crate::specifier_text::SpecifierText;
 use lists::{Faithful, Text, trim_start};
-use markers::Cause;
+use markers::{Cause, Environment, Name};
 use std::alloc::{AllocError, Global};
 use std::marker::Model;
 use std::rc::Rc;
@@ -165,6 +166,26 @@ impl Line {
         ensures { requirement_of self.now ≡ Ok (option_copied result) }
     {
         self.shared.as_ref().requirement.as_ref()
+    }
+
+    /// Whether the line is a requirement on the name.
+    pub fn is_on(&self, name: &Name) -> bool
+        ensures { result ≡ is_on name.now (required_by self.now) }
+    {
+        match self.requirement() {
+            Some(requirement) => name.normal() == requirement.name().normal(),
+            None => false,
+        }
+    }
+
+    /// Whether the line is a requirement that counts in an environment.
+    pub fn is_active(&self, environment: &Environment) -> bool
+        ensures { result ≡ counts_in environment.now (required_by self.now) }
+    {
+        match self.requirement() {
+            Some(requirement) => requirement.is_active(environment),
+            None => false,
+        }
     }
 
     /// What holds of every line: it is UTF-8, and not refused.
