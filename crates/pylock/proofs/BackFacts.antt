@@ -6,7 +6,7 @@ use Rattle.hex.specs.Hex.{encode_lower}
 use Rattle.pep440.specs.Canonical.{canonical}
 use Rattle.toml.specs.Data.{Data, string, Members, no_members, member, get_member}
 use Rattle.toml.specs.View.{items_of}
-use Rattle.pylock.specs.declared.file.FileEntry.{FileEntry}
+use Rattle.distributions.specs.declared.file.DistributionFile.{DistributionFile}
 use Rattle.pylock.specs.declared.flaw.Flaw.{Flaw}
 use Rattle.pylock.specs.CanonicalTexts.{lower_digest}
 use Rattle.pylock.specs.Forms.{after, each, optionally, some_each, text_of, unknown_in}
@@ -19,7 +19,7 @@ use Rattle.pylock.proofs.CanonicalBack.{Back, ReadsVersions, all-back, canonical
 use Rattle.pylock.proofs.PackageFacts.{parts}
 use Rattle.std.proofs.lemmas.Bool.{and_parts}
 
-file-back : (f : FileEntry) → file_in (file_data f) ≡ Ok f
+file-back : (f : DistributionFile) → file_in (file_data f) ≡ Ok f
 unfolding file_in file_data unknown_in after
 file-back f = refl
 

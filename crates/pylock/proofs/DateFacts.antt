@@ -4,7 +4,7 @@ use Rattle.std.specs.Option.{option_map}
 use Rattle.toml.specs.Data.{Data, string, Members, no_members, member, has_valid_dates, items_have_valid_dates, members_have_valid_dates}
 use Rattle.toml.specs.View.{items_of}
 use Rattle.pep440.specs.Canonical.{canonical}
-use Rattle.pylock.specs.declared.file.FileEntry.{FileEntry}
+use Rattle.distributions.specs.declared.file.DistributionFile.{DistributionFile}
 use Rattle.pylock.specs.Locks.{LockParts}
 use Rattle.pylock.specs.Packages.{EntryParts}
 use Rattle.pylock.specs.Tables.{array_of, dependency_data, file_data, lock_table, optional, package_data, package_table, some_array, table_of, tool_data}
@@ -33,7 +33,7 @@ optional-valid : (key : List ℕ) (o : Option Data) (ms : Members) → some_vali
 optional-valid key None ms h k = k
 optional-valid key (Some d) ms h k = rw h k
 
-file-valid : (f : FileEntry) → has_valid_dates (file_data f) ≡ true
+file-valid : (f : DistributionFile) → has_valid_dates (file_data f) ≡ true
 unfolding file_data
 file-valid f = refl
 

@@ -3,7 +3,7 @@ use Rattle.std.proofs.Common.{ℕ, suc, ◌≤◌, max, List, [], ◌∷◌, map
 use Rattle.toml.specs.Data.{Data, string, depth, items_depth, members_depth, Members, no_members, member}
 use Rattle.pep440.specs.Canonical.{canonical}
 use Rattle.toml.specs.View.{items_of}
-use Rattle.pylock.specs.declared.file.FileEntry.{FileEntry}
+use Rattle.distributions.specs.declared.file.DistributionFile.{DistributionFile}
 use Rattle.pylock.specs.Locks.{LockParts}
 use Rattle.pylock.specs.Packages.{EntryParts}
 use Rattle.std.specs.Option.{option_map}
@@ -57,7 +57,7 @@ optional-depth : (key : List ℕ) (o : Option Data) (ms : Members) (n : ℕ) →
 optional-depth key None ms n h k = k
 optional-depth key (Some d) ms n h k = both_le (depth d) (members_depth ms) n h k
 
-file-depth : (f : FileEntry) → depth (file_data f) ≤ 2
+file-depth : (f : DistributionFile) → depth (file_data f) ≤ 2
 unfolding file_data
 file-depth f = omega arith
 

@@ -5,7 +5,7 @@ use Rattle.std.proofs.lemmas.Slice.Eq.{bytes_eq-Decides}
 use Rattle.std.specs.Option.{option_map}
 use Rattle.std.specs.Str.{bytes_eq}
 use Rattle.toml.specs.Data.{Data, string, integer, array, table, Members, no_members, as_array, as_str, get_member}
-use Rattle.pylock.specs.declared.file.FileEntry.{FileEntry}
+use Rattle.distributions.specs.declared.file.DistributionFile.{DistributionFile}
 use Rattle.pylock.specs.Flaws.{found}
 use Rattle.pylock.specs.Forms.{after, each, optionally, size_at, some_each, table_with, text_at, text_of}
 use Rattle.pep440.specs.Canonical.{canonical}
@@ -79,7 +79,7 @@ keys-file : (ms : Members) (hashes : Data) (name url sha256 : List ℕ) (size : 
     → at_keys (codes "hashes" ∷ codes "name" ∷ codes "size" ∷ codes "url" ∷ []) ms ≡ file_table (record { name = name; url = url; size = size; sha256 = sha256 })
 keys-file ms hashes name url sha256 size h1 is h2 h3 h4 = rw (h1, is, h2, h3, h4) refl
 
-file-is : (d : Data) (f : FileEntry) → file_in d ≡ Ok f → d ≡ file_data f
+file-is : (d : Data) (f : DistributionFile) → file_in d ≡ Ok f → d ≡ file_data f
 unfolding file_in file_data
 file-is d f h =
     let a = both (table_with (codes "hashes" ∷ codes "name" ∷ codes "size" ∷ codes "url" ∷ []) d) _ f h in

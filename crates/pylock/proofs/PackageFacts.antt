@@ -1,11 +1,13 @@
 -- What holds of the parts of an entry.
-use Rattle.std.proofs.Common.{◌≡◌, ◌^◌, ◌&&◌, true, false, Bool, List, [], ◌∷◌, Option, Some, None, ℕ, option_to_list, nat_lt, refl, sym, codes, length, map, not, ◌==◌, ◌||◌, is_some}
+use Rattle.std.proofs.Common.{◌≡◌, ◌^◌, ◌&&◌, true, false, Bool, List, [], ◌∷◌, Option, Some, None, option_to_list, nat_lt, refl, length, map, not, ◌==◌, ◌||◌, is_some}
 use Rattle.std.specs.Prelude.{if◌then◌else◌}
-use Rattle.std.proofs.lemmas.Bool.{and_from, and_parts}
+use Rattle.std.proofs.lemmas.Bool.{and_parts}
 use Rattle.std.specs.List.{list_all}
 use Rattle.std.specs.Option.{option_map_or}
-use Rattle.pylock.specs.declared.file.FileEntry.{FileEntry}
-use Rattle.pylock.specs.Files.{has_ending, is_digest, is_file, is_sdist, is_wheel}
+use Rattle.distributions.specs.declared.file.DistributionFile.{DistributionFile}
+use Rattle.distributions.specs.Digests.{is_digest}
+use Rattle.distributions.specs.Files.{is_lawful, is_lawful_sdist, is_lawful_wheel}
+use Rattle.distributions.specs.Forms.{form_of, is_sdist, is_wheel}
 use Rattle.lists.specs.Rising.{rises}
 use Rattle.pep440.proofs.PythonFacts.{fits as fits-python}
 use Rattle.pep440.specs.Python.{PythonParts}
@@ -22,7 +24,7 @@ pub record Parts (p : EntryParts) : Type 0 where
   pub name : is_normal p.name ≡ true
   pub python : option_map_or is_python p.requires_python true ≡ true
   pub dependencies : are_dependencies p.name p.dependencies ≡ true
-  pub sdist : option_map_or is_sdist p.sdist true ≡ true
+  pub sdist : option_map_or is_lawful_sdist p.sdist true ≡ true
   pub wheels : are_wheels p.wheels ≡ true
   pub file : (is_some p.sdist || not (length p.wheels == 0)) ≡ true
 
@@ -37,27 +39,27 @@ split false b c d e f h = absurd cc
 
 pub parts : (p : EntryParts) → is_package p ≡ true → Parts p
 parts p h =
-    let s = split (is_normal p.name) (option_map_or is_python p.requires_python true) (are_dependencies p.name p.dependencies) (option_map_or is_sdist p.sdist true) (are_wheels p.wheels) (is_some p.sdist || not (length p.wheels == 0)) h in
+    let s = split (is_normal p.name) (option_map_or is_python p.requires_python true) (are_dependencies p.name p.dependencies) (option_map_or is_lawful_sdist p.sdist true) (are_wheels p.wheels) (is_some p.sdist || not (length p.wheels == 0)) h in
     record { name = s.0; python = s.1; dependencies = s.2; sdist = s.3; wheels = s.4; file = s.5 }
 
-abbrev pub fits : FileEntry → Bool
+abbrev pub fits : DistributionFile → Bool
 fits f = nat_lt f.size (2 ^ 63)
 
-wheel_fits : (f : FileEntry) → is_wheel f ≡ true → fits f ≡ true
-wheel_fits f h = (and_parts (fits f) (is_digest f.sha256) (and_parts (has_ending (codes ".whl") f.name) (is_file f) h).1).0
+wheel_fits : (f : DistributionFile) → is_lawful_wheel f ≡ true → fits f ≡ true
+wheel_fits f h = (and_parts (fits f) (is_digest f.sha256) (and_parts (is_wheel (form_of f.name)) (is_lawful f) h).1).0
 
-sdist_fits : (f : FileEntry) → is_sdist f ≡ true → fits f ≡ true
-sdist_fits f h = (and_parts (fits f) (is_digest f.sha256) (and_parts (has_ending (codes ".tar.gz") f.name || has_ending (codes ".zip") f.name) (is_file f) h).1).0
+sdist_fits : (f : DistributionFile) → is_lawful_sdist f ≡ true → fits f ≡ true
+sdist_fits f h = (and_parts (fits f) (is_digest f.sha256) (and_parts (is_sdist (form_of f.name)) (is_lawful f) h).1).0
 
-all_fit : (fs : List FileEntry) → list_all is_wheel fs ≡ true → list_all fits fs ≡ true
+all_fit : (fs : List DistributionFile) → list_all is_lawful_wheel fs ≡ true → list_all fits fs ≡ true
 all_fit [] h = refl
-all_fit (f ∷ fs) h = let h2 = and_parts (is_wheel f) (list_all is_wheel fs) h in rw (wheel_fits f h2.0) (all_fit fs h2.1)
+all_fit (f ∷ fs) h = let h2 = and_parts (is_lawful_wheel f) (list_all is_lawful_wheel fs) h in rw (wheel_fits f h2.0) (all_fit fs h2.1)
 
 -- the sizes of the files of an entry fit
 pub wheels_fit : (p : EntryParts) → is_package p ≡ true → list_all fits p.wheels ≡ true
-wheels_fit p h = all_fit p.wheels (and_parts (rises (map (λ f. f.name) p.wheels)) (list_all is_wheel p.wheels) (parts p h).wheels).1
+wheels_fit p h = all_fit p.wheels (and_parts (rises (map (λ f. f.name) p.wheels)) (list_all is_lawful_wheel p.wheels) (parts p h).wheels).1
 
-optional_fits : (o : Option FileEntry) → option_map_or is_sdist o true ≡ true → list_all fits (option_to_list o) ≡ true
+optional_fits : (o : Option DistributionFile) → option_map_or is_lawful_sdist o true ≡ true → list_all fits (option_to_list o) ≡ true
 optional_fits None h = refl
 optional_fits (Some f) h = rw (sdist_fits f h) refl
 
@@ -76,7 +78,7 @@ pub record Passed (p : EntryParts) : Type 0 where
   pub name : is_normal p.name ≡ true
   pub python : option_map_or is_python p.requires_python true ≡ true
   pub dependencies : true ≡ are_dependencies p.name p.dependencies
-  pub sdist : true ≡ option_map_or is_sdist p.sdist true
+  pub sdist : true ≡ option_map_or is_lawful_sdist p.sdist true
   pub wheels : true ≡ are_wheels p.wheels
   pub file : true ≡ (is_some p.sdist || not (length p.wheels == 0))
 
@@ -90,7 +92,7 @@ none-by false b c d e f p is = refl
 -- there is no entry of a text that is no set
 pub no-entry : (p : EntryParts) → option_map_or is_python p.requires_python true ≡ false → None ≡ entry_of p
 no-entry p is =
-    none-by (is_normal p.name) (option_map_or is_python p.requires_python true) (are_dependencies p.name p.dependencies) (option_map_or is_sdist p.sdist true)
+    none-by (is_normal p.name) (option_map_or is_python p.requires_python true) (are_dependencies p.name p.dependencies) (option_map_or is_lawful_sdist p.sdist true)
     (are_wheels p.wheels) (is_some p.sdist || not (length p.wheels == 0)) p is
 
 pub entry-from : (p : EntryParts) → is_package p ≡ true → Some p ≡ entry_of p

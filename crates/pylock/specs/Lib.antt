@@ -1,4 +1,3 @@
-pub mod Files
 pub mod Packages
 pub mod Python
 pub mod Locks

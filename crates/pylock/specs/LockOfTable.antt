@@ -5,7 +5,7 @@ use Rattle.toml.specs.Data.{Data, Items, no_items, item, Members, as_array, as_s
 use Rattle.toml.specs.Parse.{parse_document}
 use Rattle.pylock.specs.declared.fault.Fault.{Fault}
 use Rattle.pylock.specs.declared.fault.Fault.TheVariants as faults
-use Rattle.pylock.specs.declared.file.FileEntry.{FileEntry}
+use Rattle.distributions.specs.declared.file.DistributionFile.{DistributionFile}
 use Rattle.pylock.specs.declared.flaw.Flaw.{Flaw}
 use Rattle.pylock.specs.declared.flaw.Flaw.TheVariants.{OtherForm, OutOfMemory}
 use Rattle.pylock.specs.CanonicalTexts.{canonical_version, lower_digest, normal_name}
@@ -19,7 +19,7 @@ abbrev pub file_keys : List (List ℕ)
 file_keys = codes "hashes" ∷ codes "name" ∷ codes "size" ∷ codes "url" ∷ []
 
 -- a file
-unfoldable pub file_in : Data → Result FileEntry Flaw
+unfoldable pub file_in : Data → Result DistributionFile Flaw
 file_in d = do
   ms ← table_with file_keys d
   hashes ← found (get_member (codes "hashes") ms)

@@ -5,7 +5,7 @@ use Rattle.hex.specs.Hex.{encode_lower}
 use Rattle.pep440.specs.Canonical.{canonical}
 use Rattle.toml.specs.Data.{Data, string, integer, array, table, Members, no_members, member}
 use Rattle.toml.specs.View.{items_of}
-use Rattle.pylock.specs.declared.file.FileEntry.{FileEntry}
+use Rattle.distributions.specs.declared.file.DistributionFile.{DistributionFile}
 use Rattle.pylock.specs.Packages.{EntryParts}
 use Rattle.pylock.specs.Locks.{LockParts}
 
@@ -28,14 +28,14 @@ abbrev pub only_key : List ℕ → Data → Data
 only_key key d = table (member key d no_members)
 
 -- a file (PEP 751, "packages.wheels", "packages.sdist")
-abbrev pub file_table : FileEntry → Members
+abbrev pub file_table : DistributionFile → Members
 file_table f =
     member (codes "hashes") (only_key (codes "sha256") (string f.sha256)) (
     member (codes "name") (string f.name) (
     member (codes "size") (integer (pos f.size)) (
     member (codes "url") (string f.url) no_members)))
 
-unfoldable pub file_data : FileEntry → Data
+unfoldable pub file_data : DistributionFile → Data
 file_data f = table (file_table f)
 
 -- the name of a package that another needs (PEP 751, "packages.dependencies")

@@ -3,11 +3,11 @@
 ghost use Rattle.std.specs.Prelude.{◌≡◌, ◌==◌, ◌||◌, IfOk, MatchOption, false, is_some, length, not, true};
 ghost use Rattle.std.specs.List.{list_all};
 ghost use Rattle.std.specs.Option.{option_map_or};
-ghost use Rattle.pylock.specs.Files.{is_sdist, is_wheel};
+ghost use Rattle.distributions.specs.Files.{is_lawful_sdist, is_lawful_wheel};
 ghost use Rattle.pylock.specs.Packages.{are_dependencies, are_wheels, is_other, is_python};
 ghost use Rattle.pylock.specs.Python.{IsPython, python_text};
 
-use crate::file::{self, FileEntry};
+use distributions::DistributionFile;
 use lists::{Text, rises};
 use pep440::{Fault, RequiresPython};
 use pep508::Name;
@@ -64,31 +64,31 @@ pub(crate) fn are_dependencies(own: &Name, names: &[Name]) -> bool
 }
 
 /// Whether the file, where there is one, is a source distribution.
-pub(crate) fn may_be_sdist(file: &Option<FileEntry>) -> bool
-    ensures { result ≡ option_map_or is_sdist file.now true }
+pub(crate) fn may_be_sdist(file: &Option<DistributionFile>) -> bool
+    ensures { result ≡ option_map_or is_lawful_sdist file.now true }
 {
     match file {
-        Some(file) => file::is_sdist(file),
+        Some(file) => file.is_lawful_sdist(),
         None => true,
     }
 }
 
 /// Whether each file is a wheel.
-fn all_wheels(files: &[FileEntry]) -> bool
-    ensures { result ≡ list_all is_wheel files.now }
+fn all_wheels(files: &[DistributionFile]) -> bool
+    ensures { result ≡ list_all is_lawful_wheel files.now }
 {
-    files.iter().all(|file| file::is_wheel(file))
+    files.iter().all(|file| file.is_lawful_wheel())
 }
 
 /// Whether the files are the wheels of a package.
-pub(crate) fn are_wheels(files: &[FileEntry]) -> bool
+pub(crate) fn are_wheels(files: &[DistributionFile]) -> bool
     ensures { result ≡ are_wheels files.now }
 {
     rises(files) && all_wheels(files)
 }
 
 /// Whether there is a file at least.
-pub(crate) fn has_file(sdist: &Option<FileEntry>, wheels: &[FileEntry]) -> bool
+pub(crate) fn has_file(sdist: &Option<DistributionFile>, wheels: &[DistributionFile]) -> bool
     ensures { result ≡ (is_some sdist.now || not (length wheels.now == 0)) }
 {
     sdist.is_some() || !wheels.is_empty()

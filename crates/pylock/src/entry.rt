@@ -5,7 +5,7 @@ ghost use Rattle.pylock.specs.Packages.{IsPackage, entry_of};
 ghost use Rattle.pylock.specs.Python.{python_text};
 
 use crate::checks;
-use crate::file::FileEntry;
+use distributions::DistributionFile;
 use lists::{Faithful, Named, Seq, Text};
 use pep440::{RequiresPython, Version};
 use pep508::Name;
@@ -20,8 +20,8 @@ struct Content {
     version: Version,
     requires_python: Option<RequiresPython>,
     dependencies: Seq<Name>,
-    sdist: Option<FileEntry>,
-    wheels: Seq<FileEntry>,
+    sdist: Option<DistributionFile>,
+    wheels: Seq<DistributionFile>,
 }
 
 impl Drop for Content {
@@ -95,8 +95,8 @@ impl Entry {
         version: Version,
         requires_python: Option<Text>,
         dependencies: Seq<Name>,
-        sdist: Option<FileEntry>,
-        wheels: Seq<FileEntry>,
+        sdist: Option<DistributionFile>,
+        wheels: Seq<DistributionFile>,
     ) -> Result<Option<Entry>, AllocError>
         ensures { IfOk result (λ e. e ≡ entry_of (record {
           name = name;
@@ -122,8 +122,8 @@ impl Entry {
         version: Version,
         requires_python: Option<RequiresPython>,
         dependencies: Seq<Name>,
-        sdist: Option<FileEntry>,
-        wheels: Seq<FileEntry>,
+        sdist: Option<DistributionFile>,
+        wheels: Seq<DistributionFile>,
     ) -> Result<Option<Entry>, AllocError>
         ensures { IfOk result (λ e. e ≡ entry_of (record {
           name = name;
@@ -185,14 +185,14 @@ impl Entry {
     }
 
     /// The source distribution.
-    pub fn sdist(&self) -> &Option<FileEntry>
+    pub fn sdist(&self) -> &Option<DistributionFile>
         ensures { result.now ≡ self.now.sdist }
     {
         &self.shared.as_ref().sdist
     }
 
     /// The wheels, in the order of their names.
-    pub fn wheels(&self) -> &[FileEntry]
+    pub fn wheels(&self) -> &[DistributionFile]
         ensures { result.now ≡ self.now.wheels }
     {
         self.shared.as_ref().wheels.as_slice()

@@ -4,26 +4,26 @@ ghost use Rattle.pylock.specs.LockOfTable.{dependency_in, file_in, package_in};
 
 use crate::canonical_texts::{canonical_version, normal_name};
 use crate::entry::Entry;
-use crate::file::FileEntry;
 use crate::flaw::Flaw;
 use crate::forms::{Read, needed_at, optionally, size_at, some_each, table_with, text_at};
+use distributions::DistributionFile;
 use lists::{Seq, Text};
 use pep508::Name;
 use std::alloc::Global;
 use toml::Value;
 
-impl Read for FileEntry {
+impl Read for DistributionFile {
     ghost reading = { file_in };
 
     #[tactic(auto, unfolding(crate::specs::LockOfTable::file_in))]
-    fn from_value(alloc: Global, value: &Value) -> Result<FileEntry, Flaw> {
+    fn from_value(alloc: Global, value: &Value) -> Result<DistributionFile, Flaw> {
         let table = table_with(&["hashes", "name", "size", "url"], value)?;
         let hashes = table_with(&["sha256"], needed_at("hashes", table)?)?;
         let sha256 = Text::copy_of(alloc, text_at("sha256", hashes)?)?;
         let name = Text::copy_of(alloc, text_at("name", table)?)?;
         let size = size_at("size", table)?;
         let url = Text::copy_of(alloc, text_at("url", table)?)?;
-        Ok(FileEntry {
+        Ok(DistributionFile {
             name,
             url,
             size,

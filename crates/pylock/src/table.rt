@@ -10,11 +10,11 @@ ghost use Rattle.pylock.specs.Python.{python_text};
 ghost use Rattle.pylock.specs.Tables.{array_of, dependency_data, file_data, lock_table, package_data, package_table, table_of, tool_data};
 
 use crate::entry::Entry;
-use crate::file::FileEntry;
 use crate::lock::Lock;
 use crate::values::{
     Written, array_value, insert, insert_some, only_key, some_array, some_value, text_value,
 };
+use distributions::DistributionFile;
 use lists::Text;
 use pep440::laws::a_canonical_text_is_read;
 use pep440::{RequiresPython, Version};
@@ -44,7 +44,7 @@ impl Written for Name {
     }
 }
 
-impl Written for FileEntry {
+impl Written for DistributionFile {
     ghost form = { file_data };
 
     ghost fits = { λ f. nat_lt f.size (2 ^ 63) };

@@ -1,7 +1,7 @@
 -- Items put one after another into a list that is in order: of equal items the first stays.
 use Rattle.std.proofs.Common.{◌≡◌, List, [], find}
 use Rattle.std.specs.List.Sorted.{IsStrictlySortedBy}
-use Rattle.snapshot.specs.declared.file.ReleaseFile.{ReleaseFile}
+use Rattle.distributions.specs.declared.file.DistributionFile.{DistributionFile}
 use Rattle.snapshot.specs.Files.{has_name_of, listed_wheels, name_cmp, wheels_of}
 use Rattle.snapshot.specs.Release.{Release}
 use Rattle.snapshot.specs.Releases.{has_version_of, newer_cmp, newest_first}
@@ -14,7 +14,7 @@ unfolding IsStrictlySortedBy
 newest-sorted releases = sorted-inserted newer_total [] releases tt
 
 -- the wheels rise by name
-pub wheels-sorted : (files : List ReleaseFile) → IsStrictlySortedBy name_cmp (wheels_of files)
+pub wheels-sorted : (files : List DistributionFile) → IsStrictlySortedBy name_cmp (wheels_of files)
 unfolding IsStrictlySortedBy
 wheels-sorted files = sorted-inserted name_total [] (listed_wheels files) tt
 
@@ -26,6 +26,6 @@ unfolding IsStrictlySortedBy
 newest-first r releases = find-inserted newer_total r [] releases tt
 
 -- of wheels of one name the first that is listed stays
-pub wheels-first : (f : ReleaseFile) (files : List ReleaseFile) → find (has_name_of f) (wheels_of files) ≡ find (has_name_of f) (listed_wheels files)
+pub wheels-first : (f : DistributionFile) (files : List DistributionFile) → find (has_name_of f) (wheels_of files) ≡ find (has_name_of f) (listed_wheels files)
 unfolding IsStrictlySortedBy
 wheels-first f files = find-inserted name_total f [] (listed_wheels files) tt

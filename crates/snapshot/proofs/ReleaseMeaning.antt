@@ -1,5 +1,6 @@
 -- What the values of a package that borrows its text mean: files, releases and the package.
-use Rattle.std.proofs.Common.{◌≡◌, ℕ, ◌+◌, ◌≤◌, ◌<◌, Bool, true, false, List, [], ◌∷◌, ◌++◌, length, take, get_or, nat_le, Option, Some, None, Result, Ok, fold, refl, sym, ap, ◌∙◌}
+use Rattle.std.proofs.Common.{◌≡◌, ℕ, ◌+◌, ◌≤◌, ◌<◌, Bool, true, false, List, [], ◌∷◌, ◌++◌, length, take, get_or, Option, Some, None, Result, Ok, fold, refl, sym, ap, ◌∙◌}
+use Rattle.std.proofs.lemmas.Bool.{and_from}
 use Rattle.std.specs.Prelude.{◌==◌, IfSome, codes}
 use Rattle.std.specs.List.{AllByRecursion}
 use Rattle.std.specs.declared.alloc.Global.{Global}
@@ -13,12 +14,14 @@ use Rattle.serde_json.specs.Read.{of_json, of_items}
 use Rattle.markers.specs.Faults.{one_line}
 use Rattle.markers.specs.Names.{name_of}
 use Rattle.snapshot.specs.declared.fault.Fault.{Fault}
-use Rattle.snapshot.specs.declared.file.ReleaseFile.{ReleaseFile}
+use Rattle.distributions.specs.declared.file.DistributionFile.{DistributionFile}
 use Rattle.snapshot.specs.declared.listed.Listed.{Listed}
 use Rattle.snapshot.specs.declared.release.reading.Gathering.{Gathering}
 use Rattle.snapshot.specs.declared.release.reading.ReadReleases.{ReadReleases}
 use Rattle.snapshot.specs.declared.usable.ReleaseOutcome.{ReleaseOutcome}
-use Rattle.snapshot.specs.Files.{digest_in, file_of}
+use Rattle.distributions.specs.Digests.{digest_in, is_digest}
+use Rattle.distributions.specs.Sizes.{is_size}
+use Rattle.snapshot.specs.Files.{file_of}
 use Rattle.snapshot.specs.Lawful.{IsFile}
 use Rattle.snapshot.specs.Packages.{as_name, package_of}
 use Rattle.snapshot.specs.Releases.{listed_of, outcome_of, release_of, releases_in}
@@ -39,11 +42,11 @@ all_push P (y ∷ ys) x all one = (all.0, all_push P ys x all.1 one)
 -- ---- files
 
 -- a file of these texts
-abbrev pub file_with : List ℕ → List ℕ → ℕ → List ℕ → ReleaseFile
+abbrev pub file_with : List ℕ → List ℕ → ℕ → List ℕ → DistributionFile
 file_with name url size sha256 = record { name = name; url = url; size = size; sha256 = sha256 }
 
 pub file_means : (j : json.Json) (name url sha256 digest : List ℕ) (size : ℕ) → Has (codes "name") j (string name) → Has (codes "url") j (string url) → Has (codes "size") j (number (unsigned size)) → Has (codes "sha256") j (string sha256)
-    → (length name == 0) ≡ false → nat_le size 9223372036854775807 ≡ true → digest_in sha256 ≡ Some digest → Means file_of j (file_with name url size digest)
+    → (length name == 0) ≡ false → is_size size ≡ true → digest_in sha256 ≡ Some digest → Means file_of j (file_with name url size digest)
 unfolding file_of
 file_means j name url sha256 digest size named at sized summed some fits in_lower d read =
     let the_name : get (codes "name") d ≡ Some (string name) = named d read in
@@ -52,8 +55,8 @@ file_means j name url sha256 digest size named at sized summed some fits in_lowe
     let the_digest : get (codes "sha256") d ≡ Some (string sha256) = summed d read in
     rw (is_object (codes "name") d (string name) the_name, the_name, the_url, the_size, the_digest, some, fits, in_lower) refl
 
-pub file_lawful : (name url sha256 digest : List ℕ) (size : ℕ) → nat_le size 9223372036854775807 ≡ true → digest_in sha256 ≡ Some digest → IsFile (file_with name url size digest)
-file_lawful name url sha256 digest size fits in_lower = record { size = rw fits refl; digest = digests sha256 digest in_lower }
+pub file_lawful : (name url sha256 digest : List ℕ) (size : ℕ) → is_size size ≡ true → digest_in sha256 ≡ Some digest → IsFile (file_with name url size digest)
+file_lawful name url sha256 digest size fits in_lower = and_from (is_size size) (is_digest digest) fits (digests sha256 digest in_lower)
 
 -- ---- releases
 
@@ -94,10 +97,10 @@ listed_dependencies j vs (Some texts) listed all = λ d read.
     rw (optional_found, each_means text_of vs texts found.0 0 all found.1) refl
 
 -- a release of these parts
-abbrev pub listed_with : List ℕ → List ℕ → List (List ℕ) → Bool → List ReleaseFile → Listed
+abbrev pub listed_with : List ℕ → List ℕ → List (List ℕ) → Bool → List DistributionFile → Listed
 listed_with version python texts yanked files = record { version = version; requires_python = python; requires_dist = texts; yanked = yanked; files = files }
 
-pub listed_means : (j : json.Json) (version python : List ℕ) (texts : List (List ℕ)) (yanked : Bool) (vs : List (Value Global)) (files : List ReleaseFile) → Has (codes "version") j (string version)
+pub listed_means : (j : json.Json) (version python : List ℕ) (texts : List (List ℕ)) (yanked : Bool) (vs : List (Value Global)) (files : List DistributionFile) → Has (codes "version") j (string version)
     → Means (field (optional [] as_str) (codes "requires_python")) j python → Means dependencies_of j texts → Means (field (or_absent false as_bool) (codes "yanked")) j yanked
     → HasItems (required as_array) (codes "files") j vs → EachMeans file_of vs files → Means listed_of j (listed_with version python texts yanked files)
 unfolding listed_of

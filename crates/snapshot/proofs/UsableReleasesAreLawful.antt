@@ -1,21 +1,23 @@
 -- What holds of every release that can be used.
-use Rattle.std.proofs.Common.{◌≡◌, ℕ, ◌==◌, ◌&&◌, Bool, true, false, cond, List, [], ◌∷◌, length, map, Option, Some, None, Result, Ok, Err, find, refl, ap, arith}
+use Rattle.std.proofs.Common.{◌≡◌, ℕ, Bool, true, false, cond, List, [], ◌∷◌, map, Option, Some, None, Result, Ok, Err, find, refl, ap}
 use Rattle.std.specs.Prelude.{codes, filter, not, option_and_then, MatchOption}
-use Rattle.std.proofs.lemmas.List.{length-map}
-use Rattle.std.proofs.lemmas.Str.Ascii.{lowercase-lowercase}
-use Rattle.std.proofs.lemmas.Bool.Decides.{nat_tests}
+use Rattle.std.proofs.lemmas.Bool.{and_from}
 use Rattle.std.proofs.Math.Bool.{or-true}
-use Rattle.std.specs.Char.{is_ascii_hexdigit, to_ascii_lowercase}
-use Rattle.std.specs.List.{AllByRecursion, list_all}
+use Rattle.std.specs.Char.{to_ascii_lowercase}
+use Rattle.std.specs.List.{AllByRecursion}
 use Rattle.std.specs.List.Sorted.{IsStrictlySortedBy}
 use Rattle.std.specs.Option.{option_or}
 use Rattle.serde_json.specs.Data.{Data, no_items}
 use Rattle.serde_json.specs.Find.{as_array, as_bool, as_number, as_str, as_u64, get}
 use Rattle.pep440.specs.declared.fault.Fault.{Fault as VersionFault}
-use Rattle.snapshot.specs.declared.file.ReleaseFile.{ReleaseFile}
-use Rattle.snapshot.specs.declared.form.Form.{Form}
-use Rattle.snapshot.specs.declared.form.Form.TheVariants.{Wheel, TarGz, Zip, Other}
-use Rattle.snapshot.specs.Files.{as_digest, as_filled, as_size, digest_in, each_file, file_of, fitting_size, form_of, has_file, has_file_name, has_url, is_digest, is_tar_gz, is_wheel, is_zip, name_cmp, sdist_of, wheels_of}
+use Rattle.distributions.specs.declared.file.DistributionFile.{DistributionFile}
+use Rattle.distributions.specs.declared.form.Form.{Form}
+use Rattle.distributions.specs.declared.form.Form.TheVariants.{Wheel, TarGz, Zip, Other}
+use Rattle.distributions.specs.Digests.{digest_in, is_digest}
+use Rattle.distributions.specs.Files.{is_lawful}
+use Rattle.distributions.specs.Forms.{form_of, is_sdist, is_tar_gz, is_wheel, is_zip}
+use Rattle.distributions.specs.Sizes.{is_size}
+use Rattle.snapshot.specs.Files.{as_digest, as_filled, as_size, each_file, file_of, fitting_size, has_file, has_file_name, has_url, name_cmp, sdist_of, wheels_of}
 use Rattle.snapshot.specs.Lawful.{IsFile, IsRelease, IsSdist, IsWheel}
 use Rattle.snapshot.specs.Tied.OrderLaws.{name_total}
 use Rattle.pep440.proofs.PythonFacts.{read-again}
@@ -32,62 +34,34 @@ use Rattle.snapshot.proofs.SeveralSteps.{both, each-holds, found, inside, ok-ins
 
 -- ---- files
 
-fits-by : (b : Bool) (m n : ℕ) → cond b (Some m) None ≡ Some n → m ≡ n
-fits-by true m n e = cc
-fits-by false m n e = absurd cc
+fits-by : (b : Bool) (m n : ℕ) → is_size m ≡ b → cond b (Some m) None ≡ Some n → is_size n ≡ true
+fits-by true m n is e =
+    let same : m ≡ n = cc in
+    rw same at is
+fits-by false m n is e = absurd cc
 
--- a size that fits is kept as it is
-pub fits : (m n : ℕ) → fitting_size m ≡ Some n → fitting_size n ≡ Some n
-fits m n e =
-    let same : m ≡ n = fits-by _ m n e in
-    rw same at e
+-- a size that fits
+pub fits : (m n : ℕ) → fitting_size m ≡ Some n → is_size n ≡ true
+fits m n e = fits-by (is_size m) m n refl e
 
-sized : (d : Data) (n : ℕ) → as_size d ≡ Some n → fitting_size n ≡ Some n
-sized d n e = through fitting_size (λ n. fitting_size n ≡ Some n) fits (option_and_then as_u64 (as_number d)) n e
+sized : (d : Data) (n : ℕ) → as_size d ≡ Some n → is_size n ≡ true
+sized d n e = through fitting_size (λ n. is_size n ≡ true) fits (option_and_then as_u64 (as_number d)) n e
 
-both_true : (a b : Bool) → (a && b) ≡ true → (a ≡ true) × (b ≡ true)
-both_true true b e = (refl, e)
-both_true false b e = absurd cc
-
-digit-lower : (b : ℕ) → is_ascii_hexdigit b ≡ true → is_ascii_hexdigit (to_ascii_lowercase b) ≡ true
-digit-lower b h = grind (arith, nat_tests)
-
--- digits in lower case are digits, and in lower case
-record IsLowered (text : List ℕ) : Type 0 where
-  pub digits : list_all is_ascii_hexdigit (map to_ascii_lowercase text) ≡ true
-  pub lower : map to_ascii_lowercase (map to_ascii_lowercase text) ≡ map to_ascii_lowercase text
-
-lowered : (text : List ℕ) → list_all is_ascii_hexdigit text ≡ true → IsLowered text
-lowered [] h = record { digits = refl; lower = refl }
-lowered (b ∷ text) h =
-    let parts = both_true (is_ascii_hexdigit b) (list_all is_ascii_hexdigit text) h in
-    let rest = lowered text parts.1 in
-    record {
-      digits = rw (digit-lower b parts.0) rest.digits;
-      lower = rw (lowercase-lowercase b, rest.lower) refl;
-    }
-
--- a digest in lower case is kept as it is
-digest-lower : (text : List ℕ) → is_digest text ≡ true → digest_in (map to_ascii_lowercase text) ≡ Some (map to_ascii_lowercase text)
-digest-lower text h =
-    let parts = both_true (length text == 64) (list_all is_ascii_hexdigit text) h in
-    let low = lowered text parts.1 in
-    rw (length-map text to_ascii_lowercase, parts.0, low.digits, low.lower) refl
-
-digests-by : (b : Bool) (text digest : List ℕ) → is_digest text ≡ b → cond b (Some (map to_ascii_lowercase text)) None ≡ Some digest → digest_in digest ≡ Some digest
+digests-by : (b : Bool) (text digest : List ℕ) → is_digest text ≡ b → cond b (Some text) None ≡ Some digest → is_digest digest ≡ true
 digests-by true text digest is e =
-    let same : map to_ascii_lowercase text ≡ digest = cc in
-    rw same at (digest-lower text is)
+    let same : text ≡ digest = cc in
+    rw same at is
 digests-by false text digest is e = absurd cc
 
-pub digests : (text digest : List ℕ) → digest_in text ≡ Some digest → digest_in digest ≡ Some digest
-digests text digest e = digests-by (is_digest text) text digest refl e
+-- what a text is read as is a digest
+pub digests : (text digest : List ℕ) → digest_in text ≡ Some digest → is_digest digest ≡ true
+digests text digest e = digests-by (is_digest (map to_ascii_lowercase text)) (map to_ascii_lowercase text) digest refl e
 
-digested : (d : Data) (digest : List ℕ) → as_digest d ≡ Some digest → digest_in digest ≡ Some digest
-digested d digest e = through digest_in (λ t. digest_in t ≡ Some t) digests (as_str d) digest e
+digested : (d : Data) (digest : List ℕ) → as_digest d ≡ Some digest → is_digest digest ≡ true
+digested d digest e = through digest_in (λ t. is_digest t ≡ true) digests (as_str d) digest e
 
 -- a file that was read is lawful
-file-lawful : (d : Data) (f : ReleaseFile) → file_of d ≡ Ok f → IsFile f
+file-lawful : (d : Data) (f : DistributionFile) → file_of d ≡ Ok f → IsFile f
 unfolding file_of
 file-lawful d f e =
     let object = both (object_of d) _ f e in
@@ -96,9 +70,9 @@ file-lawful d f e =
     let size = both (field (required as_size) (codes "size") d) _ f url.then in
     let sha256 = both (field (required as_digest) (codes "sha256") d) _ f size.then in
     let same : record { name = name.first; url = url.first; size = size.first; sha256 = sha256.first } ≡ f = ok-inside _ _ sha256.then in
-    let sizes = through as_size (λ n. fitting_size n ≡ Some n) sized (get (codes "size") d) size.first (found (key_path (codes "size")) _ size.first size.is) in
-    let digest = through as_digest (λ t. digest_in t ≡ Some t) digested (get (codes "sha256") d) sha256.first (found (key_path (codes "sha256")) _ sha256.first sha256.is) in
-    rw (← same) (record { size = sizes; digest = digest })
+    let sizes = through as_size (λ n. is_size n ≡ true) sized (get (codes "size") d) size.first (found (key_path (codes "size")) _ size.first size.is) in
+    let digest = through as_digest (λ t. is_digest t ≡ true) digested (get (codes "sha256") d) sha256.first (found (key_path (codes "sha256")) _ sha256.first sha256.is) in
+    rw (← same) (and_from (is_size size.first) (is_digest sha256.first) sizes digest)
 
 -- so are all files of a release that was read
 pub listed-lawful : (d : Data) (l : Listed) → listed_of d ≡ Ok l → AllByRecursion IsFile l.files
@@ -117,41 +91,47 @@ listed-lawful d l e =
 
 -- ---- the files to install from
 
-wheels-by : (o : Form) (f : ReleaseFile) (rest : List ReleaseFile) → form_of f.name ≡ o → IsFile f → AllByRecursion IsWheel rest → AllByRecursion IsWheel (cond (is_wheel o) (f ∷ rest) rest)
-wheels-by Wheel f rest is file all = (record { file = file; form = is }, all)
+wheel-from : (f : DistributionFile) → form_of f.name ≡ Wheel → IsFile f → IsWheel f
+wheel-from f is file = and_from (is_wheel (form_of f.name)) (is_lawful f) (ap is_wheel is) file
+
+sdist-from : (f : DistributionFile) → is_sdist (form_of f.name) ≡ true → IsFile f → IsSdist f
+sdist-from f is file = and_from (is_sdist (form_of f.name)) (is_lawful f) is file
+
+wheels-by : (o : Form) (f : DistributionFile) (rest : List DistributionFile) → form_of f.name ≡ o → IsFile f → AllByRecursion IsWheel rest → AllByRecursion IsWheel (cond (is_wheel o) (f ∷ rest) rest)
+wheels-by Wheel f rest is file all = (wheel-from f is file, all)
 wheels-by TarGz f rest is file all = all
 wheels-by Zip f rest is file all = all
 wheels-by Other f rest is file all = all
 
-wheels-filtered : (files : List ReleaseFile) → AllByRecursion IsFile files → AllByRecursion IsWheel (filter (λ f. is_wheel (form_of f.name)) files)
+wheels-filtered : (files : List DistributionFile) → AllByRecursion IsFile files → AllByRecursion IsWheel (filter (λ f. is_wheel (form_of f.name)) files)
 wheels-filtered [] all = tt
 wheels-filtered (f ∷ files) all = wheels-by (form_of f.name) f (filter (λ f. is_wheel (form_of f.name)) files) refl all.0 (wheels-filtered files all.1)
 
-wheels-lawful : (files : List ReleaseFile) → AllByRecursion IsFile files → AllByRecursion IsWheel (wheels_of files)
+wheels-lawful : (files : List DistributionFile) → AllByRecursion IsFile files → AllByRecursion IsWheel (wheels_of files)
 wheels-lawful files all = all-inserted name_cmp IsWheel [] (filter (λ f. is_wheel (form_of f.name)) files) tt (wheels-filtered files all)
 
-wheels-rise : (files : List ReleaseFile) → IsStrictlySortedBy name_cmp (wheels_of files)
+wheels-rise : (files : List DistributionFile) → IsStrictlySortedBy name_cmp (wheels_of files)
 unfolding IsStrictlySortedBy
 wheels-rise files = sorted-inserted name_total [] (filter (λ f. is_wheel (form_of f.name)) files) tt
 
 -- a lawful file that passes a test, where there is one
-abbrev MayPass : (ReleaseFile → Bool) → Option ReleaseFile → Type 0
+abbrev MayPass : (DistributionFile → Bool) → Option DistributionFile → Type 0
 MayPass p o = MatchOption o Unit (λ f. IsFile f × (p f ≡ true))
 
-found-by : (p : ReleaseFile → Bool) (b : Bool) (f : ReleaseFile) (later : Option ReleaseFile) → p f ≡ b → IsFile f → MayPass p later → MayPass p (cond b (Some f) later)
+found-by : (p : DistributionFile → Bool) (b : Bool) (f : DistributionFile) (later : Option DistributionFile) → p f ≡ b → IsFile f → MayPass p later → MayPass p (cond b (Some f) later)
 found-by p true f later is file rest = (file, is)
 found-by p false f later is file rest = rest
 
-found-passes : (p : ReleaseFile → Bool) (files : List ReleaseFile) → AllByRecursion IsFile files → MayPass p (find p files)
+found-passes : (p : DistributionFile → Bool) (files : List DistributionFile) → AllByRecursion IsFile files → MayPass p (find p files)
 found-passes p [] all = tt
 found-passes p (f ∷ files) all = found-by p (p f) f (find p files) refl all.0 (found-passes p files all.1)
 
-sdist-by : (tar_gz zip : Option ReleaseFile) → MayPass (λ f. is_tar_gz (form_of f.name)) tar_gz → MayPass (λ f. is_zip (form_of f.name)) zip → MatchOption (option_or tar_gz zip) Unit IsSdist
-sdist-by (Some f) zip t z = record { file = t.0; form = rw t.1 refl }
-sdist-by None (Some f) t z = record { file = z.0; form = rw z.1 (or-true (is_tar_gz (form_of f.name))) }
+sdist-by : (tar_gz zip : Option DistributionFile) → MayPass (λ f. is_tar_gz (form_of f.name)) tar_gz → MayPass (λ f. is_zip (form_of f.name)) zip → MatchOption (option_or tar_gz zip) Unit IsSdist
+sdist-by (Some f) zip t z = sdist-from f (rw t.1 refl) t.0
+sdist-by None (Some f) t z = sdist-from f (rw z.1 (or-true (is_tar_gz (form_of f.name)))) z.0
 sdist-by None None t z = tt
 
-sdist-lawful : (files : List ReleaseFile) → AllByRecursion IsFile files → MatchOption (sdist_of files) Unit IsSdist
+sdist-lawful : (files : List DistributionFile) → AllByRecursion IsFile files → MatchOption (sdist_of files) Unit IsSdist
 sdist-lawful files all = sdist-by _ _ (found-passes (λ f. is_tar_gz (form_of f.name)) files all) (found-passes (λ f. is_zip (form_of f.name)) files all)
 
 -- ---- the release
@@ -165,7 +145,7 @@ python-lawful text None e = tt
 python-lawful text (Some p) e = read-again text p (not-skipped (python.python_of text) (Some p) e)
 
 -- files for which a release can be used
-record AreFit (sdist : Option ReleaseFile) (wheels : List ReleaseFile) : Type 0 where
+record AreFit (sdist : Option DistributionFile) (wheels : List DistributionFile) : Type 0 where
   pub some : has_file sdist wheels ≡ true
   pub names : each_file has_file_name sdist wheels ≡ true
   pub urls : each_file has_url sdist wheels ≡ true
@@ -176,13 +156,13 @@ fit-by false names urls e = absurd cc
 fit-by true false urls e = absurd cc
 fit-by true true false e = absurd cc
 
-fit-files : (sdist : Option ReleaseFile) (wheels : List ReleaseFile) → fault_of_files sdist wheels ≡ None → AreFit sdist wheels
+fit-files : (sdist : Option DistributionFile) (wheels : List DistributionFile) → fault_of_files sdist wheels ≡ None → AreFit sdist wheels
 fit-files sdist wheels e =
     let all = fit-by (has_file sdist wheels) (each_file has_file_name sdist wheels) (each_file has_url sdist wheels) e in
     record { some = all.0; names = all.1; urls = all.2 }
 
 -- a release of lawful files without a fault
-pub release-lawful : (text : List ℕ) (files : List ReleaseFile) (r : Release) → AllByRecursion IsFile files → python_of text ≡ Ok r.requires_python → r.sdist ≡ sdist_of files → r.wheels ≡ wheels_of files → fault_of_files r.sdist r.wheels ≡ None → IsRelease r
+pub release-lawful : (text : List ℕ) (files : List DistributionFile) (r : Release) → AllByRecursion IsFile files → python_of text ≡ Ok r.requires_python → r.sdist ≡ sdist_of files → r.wheels ≡ wheels_of files → fault_of_files r.sdist r.wheels ≡ None → IsRelease r
 release-lawful text files r all python sdist wheels fit = record {
   python = python-lawful text r.requires_python python;
   sdist = rw sdist (sdist-lawful files all);

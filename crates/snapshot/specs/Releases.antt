@@ -15,7 +15,7 @@ use Rattle.pep440.specs.Version.{VersionParts}
 use Rattle.pep440.specs.declared.fault.Fault.{Fault as VersionFault}
 use Rattle.pep508.specs.Requirement.{RequirementParts, requirement_text}
 use Rattle.snapshot.specs.declared.fault.Fault.{Fault}
-use Rattle.snapshot.specs.declared.file.ReleaseFile.{ReleaseFile}
+use Rattle.distributions.specs.declared.file.DistributionFile.{DistributionFile}
 use Rattle.snapshot.specs.declared.listed.Listed.{Listed}
 use Rattle.snapshot.specs.declared.release.reading.ReadReleases.{ReadReleases}
 use Rattle.snapshot.specs.declared.skipped.SkipCause.{SkipCause}
@@ -59,7 +59,7 @@ requirements_from place (text ∷ texts) = do
   Ok (first ∷ others)
 
 -- why a release with these files to install from can't be used
-abbrev pub fault_of_files : Option ReleaseFile → List ReleaseFile → Option SkipCause
+abbrev pub fault_of_files : Option DistributionFile → List DistributionFile → Option SkipCause
 fault_of_files sdist wheels =
     if not (has_file sdist wheels) then Some causes.NoFile
     else if not (each_file has_file_name sdist wheels) then Some causes.FileName

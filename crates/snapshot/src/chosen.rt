@@ -9,8 +9,7 @@ ghost use Rattle.snapshot.specs.Files.{name_cmp, sdist_of, wheels_of};
 ghost use Rattle.snapshot.specs.declared.fault.Fault.TheVariants.{OutOfMemory};
 
 use crate::fault::Fault;
-use crate::file::ReleaseFile;
-use crate::form::{Form, form_of};
+use distributions::{DistributionFile, Form};
 use lists::{Seq, rises};
 use std::alloc::{AllocError, Global};
 use std::cmp::Ordering;
@@ -20,25 +19,25 @@ use std::marker::Model;
 /// The wheels of a release by name, and its source distribution.
 #[derive(Drop)]
 pub(crate) struct Chosen {
-    pub(crate) sdist: Option<ReleaseFile>,
-    pub(crate) wheels: Seq<ReleaseFile>,
+    pub(crate) sdist: Option<DistributionFile>,
+    pub(crate) wheels: Seq<DistributionFile>,
 }
 
 /// The files of a release that were gone through: the wheels as they are listed, and the first of each
 /// form of a source distribution.
 #[derive(Drop)]
 pub(crate) struct Sorted {
-    pub(crate) wheels: Seq<ReleaseFile>,
-    pub(crate) tar_gz: Option<ReleaseFile>,
-    pub(crate) zip: Option<ReleaseFile>,
+    pub(crate) wheels: Seq<DistributionFile>,
+    pub(crate) tar_gz: Option<DistributionFile>,
+    pub(crate) zip: Option<DistributionFile>,
 }
 
 /// Puts one more file to those before it.
-fn add(sorted: &mut Sorted, file: ReleaseFile) -> Result<(), Fault>
+fn add(sorted: &mut Sorted, file: DistributionFile) -> Result<(), Fault>
     ensures kept { OnOk result (sorted.new ≡ sorted_with sorted.old file) }
     ensures memory { IsOkUnless result OutOfMemory }
 {
-    match form_of(file.name()) {
+    match file.form() {
         Form::Wheel => {
             sorted.wheels.push(file)?;
         }
@@ -58,7 +57,7 @@ fn add(sorted: &mut Sorted, file: ReleaseFile) -> Result<(), Fault>
 }
 
 /// The files, gone through one after the other.
-fn sort_files(alloc: Global, files: Vec<ReleaseFile>) -> Result<Sorted, Fault>
+fn sort_files(alloc: Global, files: Vec<DistributionFile>) -> Result<Sorted, Fault>
     ensures all { IfOk result (λ sorted. sorted ≡ fold sorted_with no_files files.items) }
     ensures memory { IsOkUnless result OutOfMemory }
 {
@@ -74,14 +73,17 @@ fn sort_files(alloc: Global, files: Vec<ReleaseFile>) -> Result<Sorted, Fault>
 }
 
 /// The order of two files by name.
-fn cmp_names(file: &ReleaseFile, other: &ReleaseFile) -> Ordering
+fn cmp_names(file: &DistributionFile, other: &DistributionFile) -> Ordering
     ensures { result ≡ name_cmp file.now other.now }
 {
-    file.name().as_bytes().cmp(other.name().as_bytes())
+    file.name
+        .as_str()
+        .as_bytes()
+        .cmp(other.name.as_str().as_bytes())
 }
 
 /// The files put into a set by name, which keeps the first of each.
-fn set_by_name(alloc: Global, files: Vec<ReleaseFile>) -> Result<BTreeSet<ByName>, AllocError>
+fn set_by_name(alloc: Global, files: Vec<DistributionFile>) -> Result<BTreeSet<ByName>, AllocError>
     ensures { IfOk result (λ set. set.keys ≡ fold (insert_key name_cmp) [] files.items) }
 {
     let mut set = BTreeSet::new(alloc);
@@ -92,7 +94,7 @@ fn set_by_name(alloc: Global, files: Vec<ReleaseFile>) -> Result<BTreeSet<ByName
 }
 
 /// The files of a set in their order.
-fn in_order(alloc: Global, set: BTreeSet<ByName>) -> Result<Seq<ReleaseFile>, AllocError>
+fn in_order(alloc: Global, set: BTreeSet<ByName>) -> Result<Seq<DistributionFile>, AllocError>
     ensures { IfOk result (λ files. files ≡ set.keys) }
 {
     let mut files = Vec::with_capacity(alloc, set.len())?;
@@ -103,7 +105,7 @@ fn in_order(alloc: Global, set: BTreeSet<ByName>) -> Result<Seq<ReleaseFile>, Al
 }
 
 /// The files by name, the first of each name. Where they are listed so already, no set is made.
-fn by_name(alloc: Global, files: Seq<ReleaseFile>) -> Result<Seq<ReleaseFile>, AllocError>
+fn by_name(alloc: Global, files: Seq<DistributionFile>) -> Result<Seq<DistributionFile>, AllocError>
     ensures { IfOk result (λ sorted. sorted ≡ fold (insert_key name_cmp) [] files) }
 {
     if rises(files.as_slice()) {
@@ -113,7 +115,7 @@ fn by_name(alloc: Global, files: Seq<ReleaseFile>) -> Result<Seq<ReleaseFile>, A
 }
 
 /// The wheels and the source distribution among the files of a release.
-pub(crate) fn choose(alloc: Global, files: Seq<ReleaseFile>) -> Result<Chosen, Fault>
+pub(crate) fn choose(alloc: Global, files: Seq<DistributionFile>) -> Result<Chosen, Fault>
     ensures wheels { IfOk result (λ chosen. chosen.wheels ≡ wheels_of files) }
     ensures sdist { IfOk result (λ chosen. chosen.sdist ≡ sdist_of files) }
     ensures memory { IsOkUnless result OutOfMemory }
@@ -131,25 +133,25 @@ pub(crate) fn choose(alloc: Global, files: Seq<ReleaseFile>) -> Result<Chosen, F
 /// A wheel in the order of the wheels of a release, which goes by name.
 #[derive(Drop)]
 pub(crate) struct ByName {
-    file: ReleaseFile,
+    file: DistributionFile,
 }
 
 impl Model for ByName {
-    ghost use Rattle.snapshot.specs.declared.file.ReleaseFile.{ReleaseFile};
+    ghost use Rattle.distributions.specs.declared.file.DistributionFile.{DistributionFile};
 
-    ghost Value = { ReleaseFile };
+    ghost Value = { DistributionFile };
 
     ghost view = { λ n. n.file };
 }
 
 impl ByName {
-    pub(crate) fn new(file: ReleaseFile) -> ByName
+    pub(crate) fn new(file: DistributionFile) -> ByName
         ensures { result ≡ file }
     {
         ByName { file }
     }
 
-    pub(crate) fn into_file(self) -> ReleaseFile
+    pub(crate) fn into_file(self) -> DistributionFile
         ensures { result ≡ self }
     {
         self.file

@@ -7,8 +7,8 @@ ghost use Rattle.snapshot.specs.Files.{each_file, has_file, has_file_name, has_u
 ghost use Rattle.snapshot.specs.Releases.{fault_of_files};
 
 use crate::chosen::Chosen;
-use crate::file::ReleaseFile;
 use crate::skipped::SkipCause;
+use distributions::DistributionFile;
 
 /// Whether there is a file to install from.
 fn has_file(files: &Chosen) -> bool
@@ -25,34 +25,36 @@ fn is_name_byte(byte: u8) -> bool
 }
 
 /// Whether a file's name is no path.
-fn has_file_name(file: &ReleaseFile) -> bool
+fn has_file_name(file: &DistributionFile) -> bool
     ensures { result ≡ has_file_name file.now }
 {
-    file.name()
+    file.name
+        .as_str()
         .as_bytes()
         .iter()
         .all(|byte| is_name_byte(*byte))
 }
 
 /// Whether a file's URL is visible ASCII.
-fn has_url(file: &ReleaseFile) -> bool
+fn has_url(file: &DistributionFile) -> bool
     ensures { result ≡ has_url file.now }
 {
-    file.url()
+    file.url
+        .as_str()
         .as_bytes()
         .iter()
         .all(|byte| byte.is_ascii_graphic())
 }
 
 /// Whether the names of all files are no paths.
-fn have_file_names(files: &[ReleaseFile]) -> bool
+fn have_file_names(files: &[DistributionFile]) -> bool
     ensures { result ≡ list_all has_file_name files.now }
 {
     files.iter().all(has_file_name)
 }
 
 /// Whether the URLs of all files are visible ASCII.
-fn have_urls(files: &[ReleaseFile]) -> bool
+fn have_urls(files: &[DistributionFile]) -> bool
     ensures { result ≡ list_all has_url files.now }
 {
     files.iter().all(has_url)
@@ -69,7 +71,7 @@ fn are_named(files: &Chosen) -> bool
 }
 
 /// Whether the URL of each file to install from is visible ASCII.
-fn have_places(files: &Chosen) -> bool
+fn have_urls_to_install(files: &Chosen) -> bool
     ensures { result ≡ each_file has_url files.now.sdist files.now.wheels }
 {
     match &files.sdist {
@@ -86,7 +88,7 @@ pub(crate) fn fault_of_files(files: &Chosen) -> Option<SkipCause>
         Some(SkipCause::NoFile)
     } else if !are_named(files) {
         Some(SkipCause::FileName)
-    } else if !have_places(files) {
+    } else if !have_urls_to_install(files) {
         Some(SkipCause::FileUrl)
     } else {
         None

@@ -2,7 +2,7 @@
 
 ghost use Rattle.std.specs.Prelude.{◌≡◌, List, find};
 ghost use Rattle.std.specs.List.Sorted.{IsStrictlySortedBy};
-ghost use Rattle.snapshot.specs.declared.file.ReleaseFile.{ReleaseFile};
+ghost use Rattle.distributions.specs.declared.file.DistributionFile.{DistributionFile};
 ghost use Rattle.snapshot.specs.Files.{has_name_of, listed_wheels, name_cmp, wheels_of};
 ghost use Rattle.snapshot.specs.Release.{Release};
 ghost use Rattle.snapshot.specs.Releases.{has_version_of, newer_cmp, newest_first};
@@ -19,8 +19,8 @@ pub fn releases_descend()
 /// The wheels of a release ascend by name, so that no two have one name; and for each name the wheel that
 /// is there is the first of the listed ones.
 pub fn wheels_ascend()
-    ensures ascending { (files : List ReleaseFile)
+    ensures ascending { (files : List DistributionFile)
         → IsStrictlySortedBy name_cmp (wheels_of files) }
-    ensures first_listed { (f : ReleaseFile) (files : List ReleaseFile)
+    ensures first_listed { (f : DistributionFile) (files : List DistributionFile)
         → find (has_name_of f) (wheels_of files) ≡ find (has_name_of f) (listed_wheels files) }
 {}

@@ -16,7 +16,6 @@ mod chosen;
 mod fault;
 mod file;
 mod fit;
-mod form;
 mod known;
 pub mod laws;
 mod listed;
@@ -30,10 +29,10 @@ mod snapshot;
 mod usable;
 
 pub use crate::fault::Fault;
-pub use crate::file::ReleaseFile;
 pub use crate::release::Release;
 pub use crate::skipped::{SkipCause, Skipped};
 pub use crate::snapshot::Snapshot;
+pub use distributions::DistributionFile;
 pub use pep440::RequiresPython;
 pub use pep508::{
     Cause, Clause, Comparison, Environment, Fault as LineFault, Line, LocalPart, Marker, Name,

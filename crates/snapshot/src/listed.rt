@@ -7,12 +7,12 @@ ghost use Rattle.snapshot.specs.Releases.{listed_of};
 ghost use Rattle.snapshot.specs.Shape.{Gives, object_of};
 
 use crate::fault::Fault;
-use crate::file::ReleaseFile;
-use crate::file::reading::files_of;
+use crate::file::files_of;
 use crate::members::values_at;
 use crate::shape::{
     below_key, flag_of, items_of, optional_items_of, optional_text_of, text_of, texts_of,
 };
+use distributions::DistributionFile;
 use lists::{Seq, Text};
 use serde_json::Value;
 use std::alloc::Global;
@@ -24,7 +24,7 @@ pub(crate) struct Listed {
     pub(crate) requires_python: Text,
     pub(crate) requires_dist: Seq<Text>,
     pub(crate) yanked: bool,
-    pub(crate) files: Seq<ReleaseFile>,
+    pub(crate) files: Seq<DistributionFile>,
 }
 
 /// What an object has at the keys of a release.

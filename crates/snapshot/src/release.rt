@@ -9,7 +9,7 @@ ghost use Rattle.snapshot.specs.Lawful.{IsRelease};
 pub(crate) mod reading;
 
 use crate::chosen::Chosen;
-use crate::file::ReleaseFile;
+use distributions::DistributionFile;
 use lists::Seq;
 use pep440::{RequiresPython, Version};
 use pep508::Requirement;
@@ -22,8 +22,8 @@ pub struct Release {
     requires_python: Option<RequiresPython>,
     dependencies: Seq<Requirement>,
     yanked: bool,
-    sdist: Option<ReleaseFile>,
-    wheels: Seq<ReleaseFile>,
+    sdist: Option<DistributionFile>,
+    wheels: Seq<DistributionFile>,
 }
 
 impl Drop for Release {
@@ -132,14 +132,14 @@ impl Release {
     }
 
     /// The source distribution, if there is one.
-    pub fn sdist(&self) -> Option<&ReleaseFile>
+    pub fn sdist(&self) -> Option<&DistributionFile>
         ensures { option_copied result ≡ self.now.sdist }
     {
         self.sdist.as_ref()
     }
 
     /// The wheels by name, in the order of bytes; no two have one name.
-    pub fn wheels(&self) -> &[ReleaseFile]
+    pub fn wheels(&self) -> &[DistributionFile]
         ensures { result.now ≡ self.now.wheels }
     {
         self.wheels.as_slice()

@@ -7,15 +7,14 @@ ghost use Rattle.snapshot.specs.Files.{file_of};
 ghost use Rattle.snapshot.specs.Lawful.{IsFile};
 ghost use Rattle.snapshot.specs.Tied.Meaning.{EachMeans, Means};
 
-use crate::file::ReleaseFile;
-use crate::file::reading::digest_in;
 use crate::pass::members::{copy_at, whole_at};
+use distributions::{DistributionFile, digest_in, is_size};
 use json::Value;
 use lists::Seq;
 use std::alloc::Global;
 
 /// The file that a value lists.
-fn file_of(alloc: Global, value: &Value<'_>) -> Option<ReleaseFile>
+fn file_of(alloc: Global, value: &Value<'_>) -> Option<DistributionFile>
     ensures meaning { IfSome result (λ file. Means file_of (value_view value.now) file) }
     ensures lawful { IfSome result IsFile }
 {
@@ -23,14 +22,19 @@ fn file_of(alloc: Global, value: &Value<'_>) -> Option<ReleaseFile>
     let url = copy_at(alloc, value, "url")?;
     let size = whole_at(value, "size")?;
     let sha256 = digest_in(copy_at(alloc, value, "sha256")?)?;
-    if name.as_str().is_empty() || size > 9223372036854775807 {
+    if name.as_str().is_empty() || !is_size(size) {
         return None;
     }
-    Some(ReleaseFile::new(name, url, size, sha256))
+    Some(DistributionFile {
+        name,
+        url,
+        size,
+        sha256,
+    })
 }
 
 /// The files that the values list.
-pub(crate) fn files_of(alloc: Global, values: &[Value<'_>]) -> Option<Seq<ReleaseFile>>
+pub(crate) fn files_of(alloc: Global, values: &[Value<'_>]) -> Option<Seq<DistributionFile>>
     ensures meaning { IfSome result (λ files. EachMeans file_of values.now files) }
     ensures lawful { IfSome result (λ files. AllByRecursion IsFile files) }
 {

@@ -3,7 +3,7 @@ use Rattle.serde_json.specs.View.{items_view}
 use Rattle.snapshot.specs.Files.{file_of}
 use Rattle.snapshot.specs.Shape.{each_from}
 use Rattle.snapshot.proofs.ItemsOneByOne.{gather, push}
-use Rattle.snapshot.proofs.file.reading.files_of.Given as goal
+use Rattle.snapshot.proofs.file.files_of.Given as goal
 
 abbrev pub invariant-loop-place : goal.invariant-loop-place
 invariant-loop-place l =

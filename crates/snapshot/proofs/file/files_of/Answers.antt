@@ -1,7 +1,7 @@
 use Rattle.std.proofs.lemmas.Result.{err_from_is_err_and}
 use Rattle.snapshot.specs.Files.{file_of}
 use Rattle.snapshot.proofs.ItemsOneByOne.{push, gather-push, goes_on, ends, is_done, none_left}
-use Rattle.snapshot.proofs.file.reading.files_of.Goals as goal
+use Rattle.snapshot.proofs.file.files_of.Goals as goal
 
 pub loop-place-init : goal.loop-place-init
 loop-place-init c =

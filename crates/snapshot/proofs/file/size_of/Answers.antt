@@ -1,5 +1,5 @@
 use Rattle.std.proofs.Common.{rules}
-use Rattle.snapshot.proofs.file.reading.size_of.Goals as goal
+use Rattle.snapshot.proofs.file.size_of.Goals as goal
 
 pub returns-in-Some : goal.returns-in-Some
 returns-in-Some c = search rules

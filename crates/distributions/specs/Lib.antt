@@ -1,0 +1,4 @@
+pub mod Digests
+pub mod Sizes
+pub mod Forms
+pub mod Files
