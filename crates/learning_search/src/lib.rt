@@ -2,7 +2,7 @@
 //!
 //! `learned_best` finds what the plain search finds. Where there is no solution, `learned_or_refuted`
 //! gives out the recorded conflicts as a refutation. `set_search` learns conflicts of sets of versions and
-//! may give up; this is the plain program beside it, which never does.
+//! may give up; this search never does.
 #![tactic(auto)]
 
 mod assignment;

@@ -2,7 +2,7 @@
 //!
 //! It takes name after name with its first candidate, and moves on to the next candidate of the last name
 //! where it is refuted. It records nothing. `learning_search` and `set_search` find the same and record
-//! conflicts; this is the plain program beside them.
+//! conflicts.
 #![tactic(auto)]
 
 mod backtracking;

@@ -17,7 +17,7 @@ use snapshot::{Release, RequiresPython};
 use std::alloc::{AllocError, Global};
 
 /// Whether what a release asks of Python is met; where it asks for nothing, it is.
-pub(crate) fn meets_python(environment: &Environment, python: Option<&RequiresPython>) -> bool
+pub fn meets_python(environment: &Environment, python: Option<&RequiresPython>) -> bool
     ensures { result ≡ spec.meets_python environment.now (option_copied python.entry) }
 {
     match python {

@@ -8,8 +8,8 @@ ghost use Rattle.problems.specs.Tied.ByExtra as spec;
 ghost use Rattle.problems.specs.Tied.OwnNeeds.{named_wants};
 
 use crate::releases::counts;
-use crate::wanted::Wanted;
-use lists::Seq;
+use crate::wanted::push_counted;
+use lists::{Lent, Seq};
 use markers::marker_extras::other_extras_are_as_none;
 use pep508::{Environment, Name, Requirement};
 use std::alloc::{AllocError, Global};
@@ -234,18 +234,22 @@ impl<'q> ByExtra<'q> {
     }
 
     /// The dependencies that count with an extra, in their order.
-    pub(crate) fn counted(&self, alloc: Global, extra: &Name) -> Result<Wanted<'q>, AllocError>
+    pub(crate) fn counted(
+        &self,
+        alloc: Global,
+        extra: &Name,
+    ) -> Result<Lent<'q, Requirement>, AllocError>
         ensures { IfOk result
             (λ wanted. wanted
             ≡ filter (counts self.now.environment (Some extra.now)) self.now.dependencies) }
     {
         other_extras_are_as_none();
-        let mut wanted = Wanted::new(alloc);
+        let mut wanted = Lent::new(alloc);
         let mut bare = self.bare();
         let mut naming = self.naming(extra);
         'places: while let Some(place) = least(bare, naming) {
             let dependency = self.at(place);
-            wanted.push_counted(self.environment, Some(extra), dependency)?;
+            push_counted(&mut wanted, self.environment, Some(extra), dependency)?;
             bare = behind(place, bare);
             naming = behind(place, naming);
         }
@@ -253,16 +257,20 @@ impl<'q> ByExtra<'q> {
     }
 
     /// The dependencies that name an extra and count with it, in their order.
-    pub(crate) fn own(&self, alloc: Global, extra: &Name) -> Result<Wanted<'q>, AllocError>
+    pub(crate) fn own(
+        &self,
+        alloc: Global,
+        extra: &Name,
+    ) -> Result<Lent<'q, Requirement>, AllocError>
         ensures { IfOk result
             (λ wanted. wanted
             ≡ named_wants self.now.environment extra.now self.now.dependencies) }
     {
-        let mut wanted = Wanted::new(alloc);
+        let mut wanted = Lent::new(alloc);
         let mut naming = self.naming(extra);
         'places: while let Some(place) = first(naming) {
             let dependency = self.at(place);
-            wanted.push_counted(self.environment, Some(extra), dependency)?;
+            push_counted(&mut wanted, self.environment, Some(extra), dependency)?;
             naming = behind(place, naming);
         }
         Ok(wanted)

@@ -26,5 +26,6 @@ mod release_wants;
 mod releases;
 mod wanted;
 
+pub use crate::admission::meets_python;
 pub use crate::node::Node;
 pub use crate::problem::Problem;

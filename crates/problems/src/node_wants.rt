@@ -8,9 +8,10 @@ ghost use Rattle.problems.specs.Tied.OwnNeeds.{own_wants};
 
 use crate::by_extra::ByExtra;
 use crate::problem::Problem;
-use crate::wanted::Wanted;
+use crate::wanted::counted;
+use lists::Lent;
 use pep440::Version;
-use pep508::Name;
+use pep508::{Name, Requirement};
 use std::alloc::{AllocError, Global};
 use std::collections::BTreeMap;
 use std::marker::Model;
@@ -141,7 +142,7 @@ impl<'q> NodeWants<'q> {
         name: &Name,
         extra: &Name,
         version: &Version,
-    ) -> Result<Wanted<'q>, AllocError>
+    ) -> Result<Lent<'q, Requirement>, AllocError>
         ensures same { self.new ≡ self.old }
         ensures wanted { IfOk result
             (λ wanted. wanted
@@ -154,14 +155,19 @@ impl<'q> NodeWants<'q> {
     }
 
     /// What is wanted at the node of a name with no extra, where the name has this version.
-    fn bare(&self, alloc: Global, name: &Name, version: &Version) -> Result<Wanted<'q>, AllocError>
+    fn bare(
+        &self,
+        alloc: Global,
+        name: &Name,
+        version: &Version,
+    ) -> Result<Lent<'q, Requirement>, AllocError>
         ensures { IfOk result
             (λ wanted. wanted
             ≡ own_wants self.now (record { name = name.now; extra = None }) version.now) }
     {
         let problem = self.problem;
         let dependencies = problem.dependencies(name, version);
-        Wanted::counted(alloc, &problem.environment, None, dependencies)
+        counted(alloc, &problem.environment, None, dependencies)
     }
 
     /// What the node of a name with an extra or none wants of its own, where the name has this version, in
@@ -173,7 +179,7 @@ impl<'q> NodeWants<'q> {
         name: &Name,
         extra: Option<&Name>,
         version: &Version,
-    ) -> Result<Wanted<'q>, AllocError>
+    ) -> Result<Lent<'q, Requirement>, AllocError>
         ensures same { self.new ≡ self.old }
         ensures wanted { IfOk result
             (λ wanted. wanted

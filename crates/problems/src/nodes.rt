@@ -9,7 +9,7 @@ ghost use Rattle.problems.specs.Tied.Standing.{IsLonger, IsOnce, IsWith, Stands}
 ghost use Rattle.problems.specs.declared.node.Node.{Node};
 
 use crate::node::Node;
-use lists::Seq;
+use lists::{Seq, copy_of};
 use pep508::Name;
 use std::alloc::{AllocError, Global};
 use std::collections::BTreeMap;
@@ -102,16 +102,6 @@ fn is_node(node: &Node, name: &Name, extra: Option<&Name>) -> bool
     ensures { result ≡ is_node node.now name.now (option_copied extra.entry) }
 {
     node.name.normal() == name.normal() && is_asked(node.extra.as_ref(), extra)
-}
-
-/// A copy of a name that may be there.
-pub fn copy_of(name: Option<&Name>) -> Result<Option<Name>, AllocError>
-    ensures { IfOk result (λ copy. copy ≡ option_copied name.entry) }
-{
-    match name {
-        Some(name) => Ok(Some(name.clone()?)),
-        None => Ok(None),
-    }
 }
 
 /// Lets a node be found by its name and its extra.

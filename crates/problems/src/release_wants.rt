@@ -9,9 +9,9 @@ ghost use Rattle.problems.specs.Tied.GroupedReleases.{grouped_on};
 use crate::by_extra::ByExtra;
 use crate::node::Node;
 use crate::problem::Problem;
-use crate::wanted::Wanted;
-use lists::Seq;
-use pep508::{Environment, Name};
+use crate::wanted::counted;
+use lists::{Lent, Seq};
+use pep508::{Environment, Name, Requirement};
 use snapshot::Release;
 use std::alloc::{AllocError, Global};
 use std::collections::BTreeMap;
@@ -76,7 +76,7 @@ fn all_counted<'q>(
     alloc: Global,
     groups: &[ByExtra<'q>],
     extra: &Name,
-) -> Result<Seq<Wanted<'q>>, AllocError>
+) -> Result<Seq<Lent<'q, Requirement>>, AllocError>
     ensures { IfOk result (λ rows. rows
         ≡ map (λ g. filter (counts g.environment (Some extra.now)) g.dependencies) groups.now) }
 {
@@ -92,12 +92,12 @@ fn all_bare<'q>(
     alloc: Global,
     environment: &Environment,
     releases: &'q [Release],
-) -> Result<Seq<Wanted<'q>>, AllocError>
+) -> Result<Seq<Lent<'q, Requirement>>, AllocError>
     ensures { IfOk result (λ rows. rows ≡ map (wants_of environment.now None) releases.now) }
 {
     let mut rows = Vec::with_capacity(alloc, releases.len())?;
     for release in releases {
-        rows.push(Wanted::counted(alloc, environment, None, release.dependencies())?)?;
+        rows.push(counted(alloc, environment, None, release.dependencies())?)?;
     }
     Ok(Seq::from_vec(rows))
 }
@@ -139,7 +139,7 @@ impl<'q> ReleaseWants<'q> {
         alloc: Global,
         name: &Name,
         extra: &Name,
-    ) -> Result<Seq<Wanted<'q>>, AllocError>
+    ) -> Result<Seq<Lent<'q, Requirement>>, AllocError>
         ensures same { self.new ≡ self.old }
         ensures wanted { IfOk result
             (λ rows. rows
@@ -152,7 +152,11 @@ impl<'q> ReleaseWants<'q> {
     }
 
     /// For each release of a node's name, newest first, what is wanted at the node.
-    pub fn at(&mut self, alloc: Global, node: &Node) -> Result<Seq<Wanted<'q>>, AllocError>
+    pub fn at(
+        &mut self,
+        alloc: Global,
+        node: &Node,
+    ) -> Result<Seq<Lent<'q, Requirement>>, AllocError>
         ensures same { self.new ≡ self.old }
         ensures wanted { IfOk result
             (λ rows. rows

@@ -2,10 +2,6 @@
 use Rattle.std.proofs.Common.{◌≡◌, ◌∙◌, ℕ, zero, suc, ◌+◌, ◌<◌, List, [], ◌∷◌, ◌++◌, get_or, length, map, take, arith, ap, sym}
 use Rattle.std.proofs.lemmas.List.{map-append, take_more}
 
--- one more of what is taken over
-pub taken-more : {A : Type 0} (mid new xs : List A) (place : ℕ) (x : A) → place < length xs → x ≡ get_or xs place x → mid ≡ take place xs → new ≡ mid ++ x ∷ [] → new ≡ take (place + 1) xs
-taken-more mid new xs place x within is front pushed = pushed ∙ ap (λ ys. ys ++ x ∷ []) front ∙ ap (λ y. take place xs ++ y ∷ []) is ∙ sym (take_more xs place x within)
-
 -- what stands at a place of a list that is mapped
 pub at-mapped : {A B : Type 0} (f : A → B) (xs : List A) (place : ℕ) (x : A) → place < length xs → x ≡ get_or xs place x → f x ≡ get_or (map f xs) place (f x)
 at-mapped f [] place x within is = absurd (omega arith)

@@ -8,11 +8,12 @@ ghost use Rattle.problems.specs.Admission.{admits};
 ghost use Rattle.problems.specs.Rules.{is_held, kept_version, rules_of};
 ghost use Rattle.resolve.specs.Tied.Choosing.{IsNewest, IsRefusedBy};
 
-use crate::asks::Asks;
+use lists::Lent;
 use pep440::Version;
-use pep508::Name;
+use pep508::{Name, Requirement};
 use problems::Problem;
 use problems::laws::equal_versions_are_alike;
+use problems::parts::admits;
 use snapshot::Release;
 
 /// The release that has the version kept for a name.
@@ -26,8 +27,24 @@ fn kept<'q>(problem: &'q Problem<'_>, name: &Name) -> Option<&'q Release>
     }
 }
 
+/// Whether all that is asked for admits a version.
+fn all_admit(problem: &Problem<'_>, asks: &Lent<'_, Requirement>, version: &Version) -> bool
+    ensures { result ≡ list_all (λ wanted. admits problem.now wanted version.now) asks.now }
+{
+    for place in 0..asks.len() {
+        if !admits(problem, asks.at(place), version) {
+            return false;
+        }
+    }
+    true
+}
+
 /// The first of the releases that all admit.
-fn first<'q>(problem: &Problem<'_>, asks: &Asks<'_>, releases: &'q [Release]) -> Option<&'q Release>
+fn first<'q>(
+    problem: &Problem<'_>,
+    asks: &Lent<'_, Requirement>,
+    releases: &'q [Release],
+) -> Option<&'q Release>
     ensures { option_copied result
         ≡ find
         (λ release. list_all (λ wanted. admits problem.now wanted release.version) asks.now)
@@ -35,14 +52,14 @@ fn first<'q>(problem: &Problem<'_>, asks: &Asks<'_>, releases: &'q [Release]) ->
 {
     releases
         .iter()
-        .find(|release| asks.admit(problem, release.version()))
+        .find(|release| all_admit(problem, asks, release.version()))
 }
 
 /// The newest version of a name that all admit, where others count beside the kept one.
 fn newest_admitted<'q>(
     problem: &'q Problem<'_>,
     name: &Name,
-    asks: &Asks<'_>,
+    asks: &Lent<'_, Requirement>,
 ) -> Option<&'q Version>
     ensures { IfSome result (λ version. (is_held problem.now name.now ≡ false)
         × IsNewest problem.now name.now asks.now version.now) }
@@ -60,7 +77,7 @@ fn newest_admitted<'q>(
 pub(crate) fn first_admitted<'q>(
     problem: &'q Problem<'_>,
     name: &Name,
-    asks: &Asks<'_>,
+    asks: &Lent<'_, Requirement>,
 ) -> Option<&'q Version>
     ensures { IfSome result
         (λ version. IsFirst (rules_of problem.now) (IsRefusedBy problem.now asks.now) name.now
@@ -70,7 +87,7 @@ pub(crate) fn first_admitted<'q>(
     match kept(problem, name) {
         None => newest_admitted(problem, name, asks),
         Some(release) => {
-            if asks.admit(problem, release.version()) {
+            if all_admit(problem, asks, release.version()) {
                 Some(release.version())
             } else {
                 newest_admitted(problem, name, asks)

@@ -5,7 +5,7 @@ ghost use Rattle.std.specs.Option.{option_copied};
 ghost use Rattle.problems.specs.Rules.{nodes_of, with_extra};
 ghost use Rattle.resolve.specs.Tied.Walking.{Follow};
 
-use crate::asks::Asks;
+use lists::Lent;
 use pep440::Version;
 use pep508::{Name, Requirement};
 use problems::Problem;
@@ -47,7 +47,7 @@ impl<'q> Following<'q> {
         version: &Version,
         name: &Name,
         extra: Option<&Name>,
-        asks: &mut Asks<'q>,
+        asks: &mut Lent<'q, Requirement>,
     ) -> Result<(), AllocError>
         ensures same { self.new.wants ≡ self.old.wants }
         ensures followed { IfOk result
@@ -70,7 +70,7 @@ impl<'q> Following<'q> {
         version: &Version,
         name: &Name,
         extras: &[Name],
-        asks: &mut Asks<'q>,
+        asks: &mut Lent<'q, Requirement>,
     ) -> Result<(), AllocError>
         ensures same { self.new.wants ≡ self.old.wants }
         ensures followed { IfOk result
@@ -88,7 +88,7 @@ impl<'q> Following<'q> {
         &mut self,
         version: &Version,
         wanted: &Requirement,
-        asks: &mut Asks<'q>,
+        asks: &mut Lent<'q, Requirement>,
     ) -> Result<(), AllocError>
         ensures same { self.new.wants ≡ self.old.wants }
         ensures followed { IfOk result

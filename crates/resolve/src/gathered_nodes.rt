@@ -9,10 +9,10 @@ ghost use Rattle.problems.specs.Tied.Standing.{AllStand, IsLonger, Stands};
 ghost use Rattle.problems.specs.declared.node.Node.{Node};
 ghost use Rattle.resolve.specs.Tied.Building.{AreEntries, AreWants, IsGrown, IsWanted};
 
-use lists::Seq;
+use lists::{Lent, Seq};
 use pep508::Requirement;
 use problems::laws::what_is_needed_can_be_met;
-use problems::parts::{Nodes, ReleaseWants, Wanted, admissions};
+use problems::parts::{Nodes, ReleaseWants, admissions};
 use problems::{Node, Problem};
 use search::TableRequirement as Entry;
 use std::alloc::{AllocError, Global};
@@ -156,7 +156,7 @@ impl<'q> Gathering<'q> {
         &mut self,
         alloc: Global,
         problem: &Problem<'_>,
-        releases: &[Wanted<'q>],
+        releases: &[Lent<'q, Requirement>],
     ) -> Result<Seq<Seq<usize>>, AllocError>
         requires met { (wanted : List RequirementParts) → Contains releases.now wanted
             → (asked : RequirementParts) → Contains wanted asked

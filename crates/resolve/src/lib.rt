@@ -2,7 +2,6 @@
 #![tactic(auto)]
 
 mod answer;
-mod asks;
 mod candidates;
 mod first_candidate;
 mod followed_nodes;

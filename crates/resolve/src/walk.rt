@@ -8,9 +8,9 @@ ghost use Rattle.problems.specs.Rules.{rules_of};
 ghost use Rattle.problems.specs.Solutions.{version_for};
 ghost use Rattle.resolve.specs.Tied.Walking.{IsOnWay, IsPlaced, IsTurn, IsWaiting};
 
-use crate::asks::Asks;
 use crate::first_candidate::first_admitted;
 use crate::followed_nodes::Following;
+use lists::Lent;
 use pep440::Version;
 use pep508::{Name, Requirement};
 use problems::laws::{own_needs_are_enough, the_rules_of_a_problem_are_lawful};
@@ -23,7 +23,7 @@ use std::collections::BTreeMap;
 /// Lets a requirement wait with its name.
 fn wait<'q>(
     alloc: Global,
-    waiting: &mut BTreeMap<Name, Asks<'q>>,
+    waiting: &mut BTreeMap<Name, Lent<'q, Requirement>>,
     wanted: &'q Requirement,
 ) -> Result<(), AllocError>
     ensures { IfOk result (λ _. IsWaiting waiting.old.entries waiting.new.entries wanted.now) }
@@ -31,7 +31,7 @@ fn wait<'q>(
     let name = wanted.name();
     let mut asks = match waiting.remove(name) {
         Some(asks) => asks,
-        None => Asks::new(alloc),
+        None => Lent::new(alloc),
     };
     asks.push(wanted)?;
     waiting.insert(name.clone()?, asks)?;
@@ -43,7 +43,7 @@ struct Walk<'q> {
     alloc: Global,
     following: Following<'q>,
     taken: BTreeMap<Name, Version>,
-    waiting: BTreeMap<Name, Asks<'q>>,
+    waiting: BTreeMap<Name, Lent<'q, Requirement>>,
 }
 
 impl<'q> Drop for Walk<'q> {
@@ -86,7 +86,11 @@ impl<'q> Walk<'q> {
 
     /// Places a requirement: it waits where its name has no version yet, and is followed where the version
     /// is one that it admits. Whether it could be placed.
-    fn place(&mut self, wanted: &'q Requirement, asks: &mut Asks<'q>) -> Result<bool, AllocError>
+    fn place(
+        &mut self,
+        wanted: &'q Requirement,
+        asks: &mut Lent<'q, Requirement>,
+    ) -> Result<bool, AllocError>
         ensures same { (self.new.following.wants ≡ self.old.following.wants)
             × (self.new.taken ≡ self.old.taken) }
         ensures placed { IfOk result
@@ -112,7 +116,7 @@ impl<'q> Walk<'q> {
     }
 
     /// Places requirements, and what comes to them. Whether all could be placed.
-    fn settle(&mut self, asks: Asks<'q>) -> Result<bool, AllocError>
+    fn settle(&mut self, asks: Lent<'q, Requirement>) -> Result<bool, AllocError>
         requires { IsOnWay self.old.following.wants self.old.taken.entries self.old.waiting.entries
             self.old.following.nodes asks }
         ensures same { (self.new.following.wants ≡ self.old.following.wants)
@@ -139,7 +143,7 @@ impl<'q> Walk<'q> {
 
     /// Gives a name the first candidate that is admitted, and places what waited with it. Whether there was
     /// such a candidate, and all could be placed.
-    fn take(&mut self, name: Name, asks: Asks<'q>) -> Result<bool, AllocError>
+    fn take(&mut self, name: Name, asks: Lent<'q, Requirement>) -> Result<bool, AllocError>
         requires { IsTurn self.old.following.wants self.old.taken.entries self.old.waiting.entries
             self.old.following.nodes name asks }
         ensures same { self.new.following.wants ≡ self.old.following.wants }
@@ -175,7 +179,7 @@ pub(crate) fn first_walk(
     own_needs_are_enough();
     laws::a_first_walk_finds_the_best_solution::<Name, Node, Version, Requirement>();
     let mut walk = Walk::new(alloc, problem);
-    let lines = Asks::of(alloc, problem.active.as_slice())?;
+    let lines = Lent::of(alloc, problem.active.as_slice())?;
     if !walk.settle(lines)? {
         return Ok(None);
     }

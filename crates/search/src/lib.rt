@@ -3,7 +3,7 @@
 //! `specs/Rules` and `specs/Solutions` say what a solution of rules is and which one is the best,
 //! whatever a name, a node, a version or a requirement is made of. A `Table` holds rules as numbers.
 //! `Front` has what a search knows of its choices while it goes forward. The searches stand in crates of
-//! their own: `set_search`, and two plain programs beside it, `plain_search` and `learning_search`.
+//! their own: `set_search`, which may give up, and two that never do, `learning_search` and `plain_search`.
 //! `specs/Conflicts` says what a conflict is and when it follows from others, and `specs/SetConflicts`
 //! says it of conflicts of sets of versions. `specs/Picture` says when the numbers of a table stand for
 //! other rules; `laws` carries the best solution over to those, and says that what follows from

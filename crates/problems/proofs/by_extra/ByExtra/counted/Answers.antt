@@ -18,7 +18,7 @@ places-preserved c =
     left-next (counts environment (Some extra)) (counts environment None) (names_extra extra) (covered-extra c.other_extras_are_as_none.ensures environment extra) c.args.self.now.dependencies c.places.wanted c.places.bare.now c.places.naming.now place c.places.invariant heads in
     let same = ap (λ (d : Depending). d.environment) c.self.view_is in
     let put = c.in_ok-push_counted.ensures ∙ ap (λ (texts : Texts). c.places.wanted ++ filter (counts texts (Some extra)) (c.at-dependency.result.now ∷ [])) same in
-    rw (c.behind-bare.ensures, c.behind-naming.ensures) (next.left c.at-dependency.result.now c.push_counted.new.self c.at-dependency.ensures put)
+    rw (c.behind-bare.ensures, c.behind-naming.ensures) (next.left c.at-dependency.result.now c.push_counted.new.wanted c.at-dependency.ensures put)
 
 pub returns : goal.returns
 returns c =

@@ -21,7 +21,7 @@ places-preserved c =
     let next : IsNextNamed environment extra c.args.self.now.dependencies c.places.wanted c.places.naming.now place = named-next environment extra c.args.self.now.dependencies c.places.wanted c.places.naming.now place c.places.invariant head in
     let same = ap (λ (d : Depending). d.environment) c.self.view_is in
     let put = c.in_ok-push_counted.ensures ∙ ap (λ (texts : Texts). c.places.wanted ++ filter (counts texts (Some extra)) (c.at-dependency.result.now ∷ [])) same in
-    rw c.behind-naming.ensures (next.left c.at-dependency.result.now c.push_counted.new.self c.at-dependency.ensures put)
+    rw c.behind-naming.ensures (next.left c.at-dependency.result.now c.push_counted.new.wanted c.at-dependency.ensures put)
 
 pub places-smaller : goal.places-smaller
 places-smaller c = rw c.behind-naming.ensures (behind-fewer c.in-Some.place c.places.naming.now (sym c.first.ensures ∙ c.in-Some.is))
