@@ -10,10 +10,10 @@ ghost use Rattle.problems.specs.Rules.{same_version};
 mod order;
 mod text;
 
-use lists::Faithful;
+use lists::{Faithful, copy_of};
 use pep440::Version;
 use pep508::Name;
-use problems::parts::{LentChoice, LentNode, copy_of};
+use problems::parts::{LentChoice, LentNode};
 use std::alloc::AllocError;
 use std::marker::Model;
 

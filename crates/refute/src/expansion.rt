@@ -11,7 +11,6 @@ mod descent;
 mod frame;
 mod numbered_sets;
 mod placed_choice;
-mod placed_term;
 mod single_conflicts;
 
 use crate::answer::refute_singly;
@@ -19,12 +18,11 @@ use crate::expansion::descent::Descent;
 use crate::expansion::numbered_sets::SetConflicts;
 use crate::expansion::placed_choice::PlacedChoice;
 use crate::set_answer::refute_by_sets;
-use lists::Seq;
+use lists::{Seq, copy_of};
 use problems::Problem;
-use problems::parts::copy_of;
 use refutations::{Choice, Refutation, accepted};
 use search::Watch;
-use set_refutations::SetRefutation;
+use set_refutations::PlacedRefutation;
 use std::alloc::{AllocError, Global};
 
 /// The choice that one by numbers stands for; nothing where there is none.
@@ -79,10 +77,10 @@ fn listed(
 fn expanded<W: Watch>(
     alloc: Global,
     problem: &Problem<'_>,
-    refutation: &SetRefutation,
+    refutation: PlacedRefutation,
     watch: &mut W,
 ) -> Result<Option<Refutation>, AllocError> {
-    let sets = SetConflicts::new(alloc, problem, refutation.conflicts())?;
+    let sets = SetConflicts::new(alloc, problem, refutation);
     let mut descent = Descent::new(alloc, sets);
     if descent.run(watch)? {
         return Ok(Some(listed(alloc, problem, &descent)?));
@@ -94,7 +92,7 @@ fn expanded<W: Watch>(
 fn accepted_list<W: Watch>(
     alloc: Global,
     problem: &Problem<'_>,
-    refutation: &SetRefutation,
+    refutation: PlacedRefutation,
     watch: &mut W,
 ) -> Result<Option<Refutation>, AllocError>
     ensures { IfOk result
@@ -119,7 +117,7 @@ pub fn refute_by_choices<W: Watch>(
         (IsRefutation (rules_of problem.now) same_version)) }
 {
     match refute_by_sets(alloc, problem, watch)? {
-        Some(sets) => match accepted_list(alloc, problem, &sets, watch)? {
+        Some(sets) => match accepted_list(alloc, problem, sets, watch)? {
             Some(refutation) => Ok(Some(refutation)),
             None => refute_singly(alloc, problem, watch),
         },

@@ -9,11 +9,10 @@ ghost use Rattle.resolve.specs.Tied.Pictured.{IsPictured};
 ghost use Rattle.refute.specs.Tied.Told.{choice_at};
 ghost use Rattle.resolve.specs.Tied.Places.{version_at};
 
-use lists::Seq;
+use lists::{Seq, copy_of};
 use pep440::Version;
 use pep508::Name;
 use problems::Problem;
-use problems::parts::copy_of;
 use refutations::{Choice, Refutation};
 use resolve::table::Tabled;
 use search::Decision;

@@ -13,7 +13,7 @@ use pep508::{Name, Requirement};
 use problems::{Node, Problem};
 use resolve::table::{Tabled, table_of};
 use search::{Watch, laws};
-use set_refutations::SetRefutation;
+use set_refutations::{PlacedRefutation, SetRefutation};
 use set_search::{SetVerdict, solved};
 use std::alloc::{AllocError, Global};
 
@@ -64,17 +64,20 @@ fn refuted_by_sets_in<W: Watch>(
     }
 }
 
-/// A refutation of the problem by conflicts of sets of versions, which `check_sets` accepts. Nothing where the problem
-/// has a solution. Somebody is told that it goes on.
+/// A refutation of the problem by conflicts of sets of versions, which `check_sets` accepts, placed in the index. Nothing
+/// where the problem has a solution. Somebody is told that it goes on.
 pub fn refute_by_sets<W: Watch>(
     alloc: Global,
     problem: &Problem<'_>,
     watch: &mut W,
-) -> Result<Option<SetRefutation>, AllocError>
+) -> Result<Option<PlacedRefutation>, AllocError>
     ensures { IfOk result
         (λ found. MatchOption found (HasSolution problem.now)
         (IsSetRefutation (rules_of problem.now) same_version)) }
 {
     let tabled = table_of(alloc, problem)?;
-    refuted_by_sets_in(alloc, problem, &tabled, watch)
+    match refuted_by_sets_in(alloc, problem, &tabled, watch)? {
+        Some(refutation) => Ok(Some(PlacedRefutation::new(alloc, problem, refutation)?)),
+        None => Ok(None),
+    }
 }

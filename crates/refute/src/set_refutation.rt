@@ -12,11 +12,10 @@ ghost use Rattle.refute.specs.Tied.Told.{term_at, versions_pictured};
 ghost use Rattle.resolve.specs.Tied.Places.{version_at};
 
 use crate::refutation::version_at;
-use lists::Seq;
+use lists::{Seq, copy_of};
 use pep440::Version;
 use pep508::Name;
 use problems::Problem;
-use problems::parts::copy_of;
 use refutations::{Choice, Refutation};
 use resolve::table::Tabled;
 use set_conflicts::table_term::TableTerm;

@@ -1,3 +1,4 @@
 pub mod SetsCompleted
 pub mod SetsChecked
 pub mod SetsGrounded
+pub mod Lent

@@ -6,6 +6,7 @@ ghost use Rattle.search.specs.Solutions.{HasNoSolution};
 ghost use Rattle.problems.specs.Rules.{rules_of, same_version};
 ghost use Rattle.set_refutations.specs.SetRefutations.{TermParts};
 
+use crate::earlier_sets::EarlierSets;
 use crate::laws;
 use crate::set_grounds::set_ground_of;
 use crate::set_refutation::{SetRefutation, SetTerm};
@@ -17,7 +18,7 @@ fn follows(problem: &Problem<'_>, earlier: &[Seq<SetTerm>], conflict: &[SetTerm]
     ensures { IsTrue result
         ↔ SetFollows (rules_of problem.now) same_version earlier.now conflict.now }
 {
-    set_ground_of(problem, earlier, conflict).is_some()
+    set_ground_of(problem, &EarlierSets::all(earlier), conflict).is_some()
 }
 
 /// Whether each conflict follows from those before it.
@@ -34,7 +35,7 @@ fn each_follows(problem: &Problem<'_>, conflicts: &[Seq<SetTerm>]) -> bool
 }
 
 /// Whether the last conflict is empty.
-fn ends_empty(conflicts: &[Seq<SetTerm>]) -> bool
+pub fn ends_empty(conflicts: &[Seq<SetTerm>]) -> bool
     ensures { IsTrue result ↔ ((front : List (List TermParts)) × (conflicts.now
         ≡ front ++ [] ∷ [])) }
 {

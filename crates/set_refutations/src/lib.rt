@@ -12,12 +12,17 @@
 #![tactic(auto)]
 
 mod checker;
+mod earlier_sets;
 pub mod laws;
+pub mod placed;
+mod placed_refutation;
 mod set_ground;
 mod set_grounds;
 mod set_refutation;
 
-pub use crate::checker::check_sets;
+pub use crate::checker::{check_sets, ends_empty};
+pub use crate::earlier_sets::EarlierSets;
+pub use crate::placed_refutation::PlacedRefutation;
 pub use crate::set_ground::{SetGround, SetNeed};
 pub use crate::set_grounds::{set_completed, set_ground_of};
 pub use crate::set_refutation::{SetRefutation, SetTerm};

@@ -14,13 +14,13 @@ mod exhaustion;
 mod refusal;
 mod version_list;
 
+use crate::earlier_sets::EarlierSets;
 use crate::set_ground::SetGround;
 use crate::set_grounds::clash::clashing;
 use crate::set_grounds::completion::{each_version_completes, first_completed};
 use crate::set_grounds::exhaustion::exhausted;
 use crate::set_grounds::refusal::refused;
 use crate::set_refutation::SetTerm;
-use lists::Seq;
 use pep440::Version;
 use pep508::Name;
 use problems::Problem;
@@ -29,8 +29,8 @@ use problems::parts::LentNode;
 /// A ground by which a conflict of sets follows from earlier ones, or nothing where it doesn't follow.
 pub fn set_ground_of<'a>(
     problem: &'a Problem<'_>,
-    earlier: &[Seq<SetTerm>],
-    conflict: &'a [SetTerm],
+    earlier: &EarlierSets<'_>,
+    conflict: &[SetTerm],
 ) -> Option<SetGround<'a>>
     ensures { MatchOption result
         (SetFollows (rules_of problem.now) same_version earlier.now conflict.now → ⊥)
@@ -51,7 +51,7 @@ pub fn set_ground_of<'a>(
 /// The place of one of the earlier conflicts that the conflict contains with the version alone at the
 /// node, from 0.
 pub fn set_completed(
-    earlier: &[Seq<SetTerm>],
+    earlier: &EarlierSets<'_>,
     conflict: &[SetTerm],
     name: &Name,
     extra: Option<&Name>,

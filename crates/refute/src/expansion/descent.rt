@@ -2,10 +2,10 @@
 
 use crate::expansion::frame::Frame;
 use crate::expansion::numbered_sets::{SetConflicts, Way};
-use crate::expansion::placed_choice::{PlacedChoice, is_among};
-use crate::expansion::placed_term::PlacedTerm;
+use crate::expansion::placed_choice::{PlacedChoice, choice_among, has, is_among};
 use crate::expansion::single_conflicts::SingleConflicts;
 use search::Watch;
+use set_refutations::placed::PlacedTerm;
 use std::alloc::{AllocError, Global};
 
 /// How many choices the conflicts of a list may have together.
@@ -32,10 +32,10 @@ fn choices_for(
 ) -> Result<Option<Vec<PlacedChoice>>, AllocError> {
     let mut found: Vec<PlacedChoice> = Vec::new(alloc);
     for term in terms {
-        let choice = if term.has(candidate) {
+        let choice = if has(term, candidate) {
             candidate
         } else {
-            let Some(choice) = term.choice_among(choices) else {
+            let Some(choice) = choice_among(term, choices) else {
                 return Ok(None);
             };
             choice
@@ -151,7 +151,7 @@ impl<'a> Descent<'a> {
         term: usize,
         choices: &[PlacedChoice],
     ) -> Option<PlacedChoice> {
-        self.sets.terms(conflict).get(term)?.choice_among(choices)
+        choice_among(self.sets.terms(conflict).get(term)?, choices)
     }
 
     /// Appends the conflict of the choices of two terms, or of one.

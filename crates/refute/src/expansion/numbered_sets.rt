@@ -1,12 +1,12 @@
 // The conflicts of a refutation by sets, and what each of them rests on.
 
-use crate::expansion::containable::{Containable, containable_before};
+use crate::expansion::containable::containable_before;
 use crate::expansion::placed_choice::PlacedChoice;
-use crate::expansion::placed_term::{PlacedTerm, place_of, placed_conflicts};
-use lists::Seq;
-use problems::parts::Nodes;
 use problems::{Node, Problem};
-use set_refutations::{SetGround, SetNeed, SetTerm, set_completed, set_ground_of};
+use set_refutations::placed::{PlacedTerm, place_of};
+use set_refutations::{
+    EarlierSets, PlacedRefutation, SetGround, SetNeed, set_completed, set_ground_of,
+};
 use std::alloc::{AllocError, Global};
 use std::collections::BTreeMap;
 
@@ -28,12 +28,10 @@ pub(crate) enum Way {
 pub(crate) struct SetConflicts<'a> {
     alloc: Global,
     problem: &'a Problem<'a>,
-    conflicts: &'a [Seq<SetTerm>],
-    nodes: Nodes,
-    terms: Vec<Vec<PlacedTerm>>,
+    refutation: PlacedRefutation,
     ways: BTreeMap<usize, Way>,
-    /// By a conflict, the earlier ones that it may contain with one release more.
-    containable: BTreeMap<usize, Containable>,
+    /// By a conflict, the places of the earlier ones that it may contain with one release more.
+    containable: BTreeMap<usize, Vec<usize>>,
     /// By a conflict and a place: the earlier conflict that it contains with this release at its node.
     completed: BTreeMap<(usize, usize), usize>,
 }
@@ -43,44 +41,37 @@ impl<'a> SetConflicts<'a> {
     pub(crate) fn new(
         alloc: Global,
         problem: &'a Problem<'a>,
-        conflicts: &'a [Seq<SetTerm>],
-    ) -> Result<SetConflicts<'a>, AllocError> {
-        let mut nodes = Nodes::new(alloc);
-        let terms = placed_conflicts(alloc, problem, &mut nodes, conflicts)?;
-        Ok(SetConflicts {
+        refutation: PlacedRefutation,
+    ) -> SetConflicts<'a> {
+        SetConflicts {
             alloc,
             problem,
-            conflicts,
-            nodes,
-            terms,
+            refutation,
             ways: BTreeMap::new(alloc),
             containable: BTreeMap::new(alloc),
             completed: BTreeMap::new(alloc),
-        })
+        }
     }
 
     /// The place of the last conflict; nothing where there is none.
     pub(crate) fn last(&self) -> Option<usize> {
-        self.conflicts.len().checked_sub(1)
+        self.refutation.conflicts().len().checked_sub(1)
     }
 
     pub(crate) fn node(&self, number: usize) -> Option<&Node> {
-        self.nodes.as_slice().get(number)
+        self.refutation.placed().nodes().get(number)
     }
 
     /// The terms of a conflict; none where there is no such conflict.
     pub(crate) fn terms(&self, conflict: usize) -> &[PlacedTerm] {
-        match self.terms.get(conflict) {
-            Some(terms) => terms.as_slice(),
-            None => &[],
-        }
+        self.refutation.placed().terms(conflict)
     }
 
     /// The candidate of a node in this turn; nothing behind the last one.
     pub(crate) fn candidate(&self, node: usize, turn: usize) -> Option<PlacedChoice> {
         let name = &self.node(node)?.name;
         let release = self.problem.eligible(name).get(turn)?;
-        let place = place_of(self.problem.releases(name), release.version())?;
+        let place = place_of(self.problem.releases(name), release.version(), turn)?;
         Some(PlacedChoice { node, place })
     }
 
@@ -92,11 +83,15 @@ impl<'a> SetConflicts<'a> {
         self.look(conflict)?;
         let (Some(earlier), Some(own)) = (
             self.containable.get(&conflict),
-            self.conflicts.get(conflict),
+            self.refutation.conflicts().get(conflict),
         ) else {
             return Ok(None);
         };
-        let Some(ground) = set_ground_of(self.problem, earlier.conflicts(), own.as_slice()) else {
+        let Some(ground) = set_ground_of(
+            self.problem,
+            &EarlierSets::few(self.refutation.conflicts(), earlier.as_slice()),
+            own.as_slice(),
+        ) else {
             return Ok(None);
         };
         let way = self.way_by(ground)?;
@@ -107,12 +102,7 @@ impl<'a> SetConflicts<'a> {
     /// Finds the earlier conflicts that one may contain with a release more. All others are of no use to it.
     fn look(&mut self, conflict: usize) -> Result<(), AllocError> {
         if self.containable.get(&conflict).is_none() {
-            let found = containable_before(
-                self.alloc,
-                self.conflicts,
-                self.terms.as_slice(),
-                conflict,
-            )?;
+            let found = containable_before(self.alloc, self.refutation.terms(), conflict)?;
             self.containable.insert(conflict, found)?;
         }
         Ok(())
@@ -124,7 +114,7 @@ impl<'a> SetConflicts<'a> {
             SetGround::TermsClash(one, other) => Way::Clash(one, other),
             SetGround::EachVersion(term) => Way::Rests(term),
             SetGround::NoneLeft(need, name, extra) => {
-                let node = self.nodes.number_of(self.alloc, name, extra)?;
+                let node = self.refutation.number_of(self.alloc, name, extra)?;
                 Way::NoneLeft(
                     node,
                     match need {
@@ -158,13 +148,14 @@ impl<'a> SetConflicts<'a> {
         let node = self.node(choice.node)?;
         let release = self.problem.releases(&node.name).get(choice.place)?;
         let earlier = self.containable.get(&conflict)?;
+        let own = self.refutation.conflicts().get(conflict)?;
         let place = set_completed(
-            earlier.conflicts(),
-            self.conflicts.get(conflict)?.as_slice(),
+            &EarlierSets::few(self.refutation.conflicts(), earlier.as_slice()),
+            own.as_slice(),
             &node.name,
             node.extra.as_ref(),
             release.version(),
         )?;
-        earlier.place(place)
+        earlier.as_slice().get(place).copied()
     }
 }

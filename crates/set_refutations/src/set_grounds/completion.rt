@@ -10,10 +10,10 @@ ghost use Rattle.problems.specs.Rules.{same_version};
 ghost use Rattle.set_refutations.specs.SetRefutations.{TermParts};
 ghost use Rattle.set_refutations.specs.Tied.SetCases as spec;
 
+use crate::earlier_sets::EarlierSets;
 use crate::set_ground::SetGround;
 use crate::set_grounds::version_list::{are_listed, found_from};
 use crate::set_refutation::SetTerm;
-use lists::Seq;
 use pep440::Version;
 use problems::parts::LentNode;
 use snapshot::Release;
@@ -106,7 +106,7 @@ fn is_completed(
 /// The place of the first of the earlier conflicts that the conflict contains with the version alone
 /// at the node.
 pub(crate) fn first_completed(
-    earlier: &[Seq<SetTerm>],
+    earlier: &EarlierSets<'_>,
     conflict: &[SetTerm],
     node: &LentNode<'_>,
     version: &Version,
@@ -117,7 +117,7 @@ pub(crate) fn first_completed(
         × (list_all (spec.is_within conflict.now node.now version.now) old ≡ true)) }
 {
     for place in 0..earlier.len() {
-        if is_completed(earlier[place].as_slice(), conflict, node, version) {
+        if is_completed(earlier.at(place), conflict, node, version) {
             return Some(place);
         }
     }
@@ -126,7 +126,7 @@ pub(crate) fn first_completed(
 
 /// Whether the conflict with the version alone at the node contains an earlier one.
 fn completes(
-    earlier: &[Seq<SetTerm>],
+    earlier: &EarlierSets<'_>,
     conflict: &[SetTerm],
     node: &LentNode<'_>,
     version: &Version,
@@ -138,7 +138,7 @@ fn completes(
 
 /// The same with the version of a release.
 fn release_completes(
-    earlier: &[Seq<SetTerm>],
+    earlier: &EarlierSets<'_>,
     conflict: &[SetTerm],
     node: &LentNode<'_>,
     release: &Release,
@@ -150,7 +150,7 @@ fn release_completes(
 
 /// Whether with each release alone at the node the conflict contains an earlier one.
 pub(crate) fn each_release_completes(
-    earlier: &[Seq<SetTerm>],
+    earlier: &EarlierSets<'_>,
     conflict: &[SetTerm],
     node: &LentNode<'_>,
     releases: &[Release],
@@ -164,7 +164,7 @@ pub(crate) fn each_release_completes(
 
 /// Whether with each of the versions alone at the node the conflict contains an earlier one.
 fn each_completes(
-    earlier: &[Seq<SetTerm>],
+    earlier: &EarlierSets<'_>,
     conflict: &[SetTerm],
     node: &LentNode<'_>,
     versions: &[Version],
@@ -177,7 +177,7 @@ fn each_completes(
 }
 
 /// Whether with each version of a term the conflict contains an earlier one.
-fn term_completes(earlier: &[Seq<SetTerm>], conflict: &[SetTerm], term: &SetTerm) -> bool
+fn term_completes(earlier: &EarlierSets<'_>, conflict: &[SetTerm], term: &SetTerm) -> bool
     ensures { result ≡ spec.each_completes earlier.now conflict.now term.now }
 {
     each_completes(earlier, conflict, &term.node(), term.versions.as_slice())
@@ -185,7 +185,7 @@ fn term_completes(earlier: &[Seq<SetTerm>], conflict: &[SetTerm], term: &SetTerm
 
 /// The first of the terms with each version of which the conflict contains an earlier one.
 pub(crate) fn each_version_completes<'a>(
-    earlier: &[Seq<SetTerm>],
+    earlier: &EarlierSets<'_>,
     conflict: &[SetTerm],
 ) -> Option<SetGround<'a>>
     ensures { MatchOption result (EachVersion same_version earlier.now conflict.now → ⊥)

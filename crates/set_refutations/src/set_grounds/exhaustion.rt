@@ -9,10 +9,10 @@ ghost use Rattle.problems.specs.Tied.NodeEquality.{is_node};
 ghost use Rattle.problems.specs.Rules.{bare, counts, nodes_of, rules_of, same_version, wants, with_extra};
 ghost use Rattle.set_refutations.specs.Tied.SetCases as spec;
 
+use crate::earlier_sets::EarlierSets;
 use crate::set_ground::{SetGround, SetNeed};
 use crate::set_grounds::completion::each_release_completes;
 use crate::set_refutation::SetTerm;
-use lists::Seq;
 use pep440::Version;
 use pep508::{Name, Requirement};
 use problems::Problem;
@@ -21,7 +21,7 @@ use problems::parts::{LentNode, counts};
 /// Whether no candidate is left for a node.
 fn none_left(
     problem: &Problem<'_>,
-    earlier: &[Seq<SetTerm>],
+    earlier: &EarlierSets<'_>,
     conflict: &[SetTerm],
     node: &LentNode<'_>,
 ) -> bool
@@ -115,7 +115,7 @@ fn is_needed_by(problem: &Problem<'_>, term: Option<&SetTerm>, node: &LentNode<'
 /// Whether no candidate is left for a node, which each version of the term needs where one is given.
 fn is_left_out(
     problem: &Problem<'_>,
-    earlier: &[Seq<SetTerm>],
+    earlier: &EarlierSets<'_>,
     conflict: &[SetTerm],
     term: Option<&SetTerm>,
     node: &LentNode<'_>,
@@ -129,7 +129,7 @@ fn is_left_out(
 /// The first of the extras of a requirement with which its name is such a node.
 fn extra_left_out<'a>(
     problem: &Problem<'_>,
-    earlier: &[Seq<SetTerm>],
+    earlier: &EarlierSets<'_>,
     conflict: &[SetTerm],
     term: Option<&SetTerm>,
     wanted: &'a Requirement,
@@ -149,7 +149,7 @@ fn extra_left_out<'a>(
 /// The first such node of those that a requirement needs.
 fn node_left_out<'a>(
     problem: &Problem<'_>,
-    earlier: &[Seq<SetTerm>],
+    earlier: &EarlierSets<'_>,
     conflict: &[SetTerm],
     term: Option<&SetTerm>,
     wanted: &'a Requirement,
@@ -181,7 +181,7 @@ fn counts_at(problem: &Problem<'_>, term: &SetTerm, wanted: &Requirement) -> boo
 /// The first such node of those that the dependencies need which count at the term's node.
 fn node_left_behind<'a>(
     problem: &Problem<'_>,
-    earlier: &[Seq<SetTerm>],
+    earlier: &EarlierSets<'_>,
     conflict: &[SetTerm],
     term: &SetTerm,
     dependencies: &'a [Requirement],
@@ -208,7 +208,7 @@ fn node_left_behind<'a>(
 /// The first such node of those that a version of the term needs.
 fn node_left_at<'a>(
     problem: &'a Problem<'_>,
-    earlier: &[Seq<SetTerm>],
+    earlier: &EarlierSets<'_>,
     conflict: &[SetTerm],
     term: &SetTerm,
     version: &Version,
@@ -228,7 +228,7 @@ fn node_left_at<'a>(
 /// first version needs.
 fn exhausted_behind<'a>(
     problem: &'a Problem<'_>,
-    earlier: &[Seq<SetTerm>],
+    earlier: &EarlierSets<'_>,
     conflict: &[SetTerm],
     term: &SetTerm,
 ) -> Option<LentNode<'a>>
@@ -247,7 +247,7 @@ fn exhausted_behind<'a>(
 /// The ground that each version of one of the terms needs a node for which no candidate is left.
 fn exhausted_by_term<'a>(
     problem: &'a Problem<'_>,
-    earlier: &[Seq<SetTerm>],
+    earlier: &EarlierSets<'_>,
     conflict: &[SetTerm],
 ) -> Option<SetGround<'a>>
     ensures { MatchOption result
@@ -268,7 +268,7 @@ fn exhausted_by_term<'a>(
 /// The ground that one of the lines needs a node for which no candidate is left.
 fn exhausted_by_line<'a>(
     problem: &'a Problem<'_>,
-    earlier: &[Seq<SetTerm>],
+    earlier: &EarlierSets<'_>,
     conflict: &[SetTerm],
 ) -> Option<SetGround<'a>>
     ensures { MatchOption result
@@ -290,7 +290,7 @@ fn exhausted_by_line<'a>(
 /// node that nothing needs isn't looked for.
 pub(crate) fn exhausted<'a>(
     problem: &'a Problem<'_>,
-    earlier: &[Seq<SetTerm>],
+    earlier: &EarlierSets<'_>,
     conflict: &[SetTerm],
 ) -> Option<SetGround<'a>>
     ensures { MatchOption result
