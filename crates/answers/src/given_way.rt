@@ -2,6 +2,7 @@
 
 use crate::with_release::has;
 use edits::{Learning, Name, Problem, Resolver};
+use explain::next_name;
 use lists::Seq;
 use pep440::Version;
 use resolve::Answer;
@@ -85,7 +86,7 @@ fn locked_walk(
         let Some(name) = next_name(alloc, problem, &taken)? else {
             break;
         };
-        if name.normal() == sought.normal() {
+        if name == *sought {
             break;
         }
         let Some(version) = problem.kept.get(&name) else {
@@ -97,29 +98,6 @@ fn locked_walk(
         walk.push(Taken { name, locked })?;
     }
     Ok(walk)
-}
-
-/// The name that is taken next where these versions are taken.
-fn next_name(
-    alloc: Global,
-    problem: &Problem<'_>,
-    taken: &BTreeMap<Name, Version>,
-) -> Result<Option<Name>, AllocError> {
-    let nodes = problem.needed(alloc, taken)?;
-    let mut least: Option<&Name> = None;
-    for node in nodes.as_slice() {
-        let is_before = match least {
-            Some(name) => node.name.cmp(name).is_lt(),
-            None => true,
-        };
-        if is_before && !taken.contains_key(&node.name) {
-            least = Some(&node.name);
-        }
-    }
-    match least {
-        Some(name) => Ok(Some(name.clone()?)),
-        None => Ok(None),
-    }
 }
 
 /// How many names at the front of a walk a solution has at their locked versions.

@@ -11,7 +11,7 @@ mod with_release;
 
 pub use crate::changed_lines::{changed_by, lines_of};
 pub use crate::given_way::kept_longest;
-pub use crate::shown::{Shown, first_refuted, refuted_by_sets};
+pub use crate::shown::{first_explained, first_refuted, refuted_by_sets};
 pub use crate::told::{explained_text, listed_text, told_refutation};
 pub use crate::with_release::best_keeping;
 pub use search::Watch;

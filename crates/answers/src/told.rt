@@ -5,7 +5,7 @@ ghost use Rattle.std.specs.List.{All};
 ghost use Rattle.answers.specs.Answers.{IsSolvable};
 
 use crate::changed_lines::changed_by;
-use crate::shown::{Shown, first_refuted};
+use crate::shown::first_explained;
 use edits::{Edit, Line, Problem, TargetName};
 use explain::{ChangedLines, Explanation, Extent, Wording, add_refutation};
 use phrases::add_target_line;
@@ -13,28 +13,29 @@ use refutations::Refutation;
 use search::Unwatched;
 use std::alloc::{AllocError, Global};
 
-/// The sentences that tell why the first target without a solution has none after the edit of these lines; nothing where each
-/// one has a solution.
+/// The sentences that tell why the first target without a solution has none after the edit of these lines, in lines of the
+/// width at most; nothing where each one has a solution.
 pub fn told_refutation(
     alloc: Global,
     lines: &[Line],
     edit: &Edit,
     problems: &[(TargetName, Problem<'_>)],
+    width: usize,
 ) -> Result<Option<String>, AllocError>
     ensures { IfOk result (λ text. text ≡ None → All IsSolvable problems.now) }
 {
     let changed = changed_by(edit);
     let mut nobody = Unwatched;
-    match first_refuted(alloc, problems, true, &mut nobody)? {
-        Some((place, Shown::Explained(explanation))) => {
+    match first_explained(alloc, problems, &mut nobody)? {
+        Some((place, explanation)) => {
             let (name, problem) = &problems[place];
             let wording = Wording {
                 lines: ChangedLines { lines, changed },
                 extent: Extent::Short,
+                width,
             };
             Ok(Some(explained_text(alloc, name, problem, &explanation, wording)?))
         }
-        Some((_, Shown::Listed(_))) => Ok(Some(String::new(alloc))),
         None => Ok(None),
     }
 }

@@ -1,17 +1,16 @@
 // Why a lock hasn't a release.
 
-use crate::asked::asked_by_term;
-use crate::dependencies::NeededName;
-use crate::line_breaks::add_wrapped;
-use crate::placed_term::{PlacedTerm, place_of};
-use crate::reasons::Unadmitted;
+use crate::asked::{Asked, Asking};
+use crate::dependencies::bare_node;
 use crate::release_set::add_listed;
+use crate::walk::next_name;
 use crate::wording::Extent;
-use lists::Bits;
+use lists::{Bits, copy_of};
 use pep440::Version;
-use pep508::{Name, Requirement};
-use problems::parts::admits;
+use pep508::Name;
+use phrases::add_wrapped;
 use problems::{Node, Problem};
+use set_refutations::placed::{PlacedTerm, place_of};
 use std::alloc::{AllocError, Global};
 use std::collections::BTreeMap;
 
@@ -32,14 +31,33 @@ struct Difference {
     before: BTreeMap<Name, Version>,
 }
 
+/// What a release needs of the name of another one, which isn't one of these releases.
+#[derive(Drop)]
+struct Need<'a> {
+    of: WantedRelease<'a>,
+    name: &'a Name,
+    asked: Asked,
+}
+
+impl Need<'_> {
+    fn add(&self, text: &mut String) -> Result<(), AllocError> {
+        let name = self.of.name.normal();
+        let version = self.of.version;
+        write!(text, "{name} {version} needs ")?;
+        self.asked.add_needed(text, self.name.normal())
+    }
+}
+
 /// How many names that are taken before one are told.
 const BEFORE: usize = 3;
 
 /// Why a lock hasn't a release with which there is a solution, given the best one: the first name on
-/// the walk, in its order, for which both have another version. The problem keeps the versions of the lock.
+/// the walk, in its order, for which both have another version. The problem keeps the versions of the lock. Lines have the
+/// width at most.
 pub fn add_difference(
     alloc: Global,
     text: &mut String,
+    width: usize,
     problem: &Problem<'_>,
     wanted: WantedRelease<'_>,
     best: &BTreeMap<Name, Version>,
@@ -49,7 +67,7 @@ pub fn add_difference(
         Some(difference) => wanted.add_difference(alloc, &mut sentence, problem, &difference)?,
         None => add_same(&mut sentence, wanted)?,
     }
-    add_wrapped(text, sentence.as_str(), "")
+    add_wrapped(text, sentence.as_str(), "", width)
 }
 
 /// The first name on the walk that the lock and the best solution give another version.
@@ -81,44 +99,11 @@ fn first_difference(
     Ok(None)
 }
 
-/// The least name that is needed beside what is taken and isn't taken.
-fn next_name(
-    alloc: Global,
-    problem: &Problem<'_>,
-    taken: &BTreeMap<Name, Version>,
-) -> Result<Option<Name>, AllocError> {
-    let nodes = problem.needed(alloc, taken)?;
-    let mut least: Option<&Name> = None;
-    for node in nodes.as_slice() {
-        if !taken.contains_key(&node.name) && is_before(&node.name, least) {
-            least = Some(&node.name);
-        }
-    }
-    match least {
-        Some(name) => Ok(Some(name.clone()?)),
-        None => Ok(None),
-    }
-}
-
-fn is_before(name: &Name, least: Option<&Name>) -> bool {
-    match least {
-        Some(least) => name.cmp(least).is_lt(),
-        None => true,
-    }
-}
-
 fn are_same(locked: Option<&Version>, chosen: Option<&Version>) -> bool {
     match (locked, chosen) {
         (Some(locked), Some(chosen)) => locked.cmp(chosen).is_eq(),
         (None, None) => true,
         _ => false,
-    }
-}
-
-fn copy_of(version: Option<&Version>) -> Result<Option<Version>, AllocError> {
-    match version {
-        Some(version) => Ok(Some(version.clone()?)),
-        None => Ok(None),
     }
 }
 
@@ -129,7 +114,7 @@ pub fn add_same(text: &mut String, wanted: WantedRelease<'_>) -> Result<(), Allo
     write!(text, "{name} {version} is locked.")
 }
 
-impl WantedRelease<'_> {
+impl<'a> WantedRelease<'a> {
     /// What the best solution with it has in place of what is locked.
     fn add_difference(
         &self,
@@ -152,11 +137,8 @@ impl WantedRelease<'_> {
                     name: &difference.name,
                     version: locked,
                 };
-                if self.add_hindrance(alloc, text, problem, kept)? {
-                    return write!(text, ". The best one has {other} {best}.");
-                }
-                add_before(alloc, text, &difference.before)?;
-                write!(text, "; the best one has {other} {best}.")
+                self.add_hindrance(alloc, text, problem, kept, &difference.before)?;
+                write!(text, " best one has {other} {best}.")
             }
             (None, Some(best)) => {
                 write!(
@@ -171,39 +153,60 @@ impl WantedRelease<'_> {
         }
     }
 
-    /// Why the release doesn't go with another one that is taken before it, where one of them needs the other's name in
-    /// another version. Tells whether that is so.
+    /// Why no solution with the release keeps another one, and how the sentence on the best one begins.
     fn add_hindrance(
         &self,
         alloc: Global,
         text: &mut String,
         problem: &Problem<'_>,
         kept: WantedRelease<'_>,
-    ) -> Result<bool, AllocError> {
-        let mut need = String::new(alloc);
-        if !kept.add_need(alloc, &mut need, problem, *self)?
-            && !self.add_need(alloc, &mut need, problem, kept)?
-        {
-            return Ok(false);
+        before: &BTreeMap<Name, Version>,
+    ) -> Result<(), AllocError> {
+        match self.hindrance(alloc, problem, kept)? {
+            Some(need) => {
+                text.push_str(", which is taken first: ")?;
+                need.add(text)?;
+                text.push_str(". The")
+            }
+            None => {
+                add_before(alloc, text, before)?;
+                text.push_str("; the")
+            }
         }
-        text.push_str(", which is taken first: ")?;
-        text.push_str(need.as_str())?;
-        Ok(true)
     }
 
-    /// What the release needs of another name, where that isn't the version that the other one has. Tells whether it is so.
-    fn add_need(
+    /// Why the release doesn't go with another one that is taken before it, where one of them needs the other's name in
+    /// another version.
+    fn hindrance<'r>(
         &self,
         alloc: Global,
-        text: &mut String,
         problem: &Problem<'_>,
-        other: WantedRelease<'_>,
-    ) -> Result<bool, AllocError> {
+        kept: WantedRelease<'r>,
+    ) -> Result<Option<Need<'r>>, AllocError>
+    where
+        'a: 'r,
+    {
+        match kept.need(alloc, problem, *self)? {
+            Some(need) => Ok(Some(need)),
+            None => self.need(alloc, problem, kept),
+        }
+    }
+
+    /// What the release needs of another name, where that isn't the version that the other one has.
+    fn need<'r>(
+        &self,
+        alloc: Global,
+        problem: &Problem<'_>,
+        other: WantedRelease<'r>,
+    ) -> Result<Option<Need<'r>>, AllocError>
+    where
+        'a: 'r,
+    {
         let (Some(own), Some(place)) = (
             place_of(problem.releases(self.name), self.version, 0),
             place_of(problem.releases(other.name), other.version, 0),
         ) else {
-            return Ok(false);
+            return Ok(None);
         };
         let mut places = Bits::new(alloc);
         places.insert(own)?;
@@ -212,16 +215,20 @@ impl WantedRelease<'_> {
             extra: None,
         };
         let term = PlacedTerm::new(node, places);
-        let needed = NeededName::bare(other.name);
-        let asked = asked_by_term(alloc, problem, &term, needed, Extent::Short)?;
+        let asking = Asking {
+            alloc,
+            problem,
+            extent: Extent::Short,
+        };
+        let asked = asking.by_term(&term, &bare_node(other.name))?;
         if asked.places.has(place) {
-            return Ok(false);
+            return Ok(None);
         }
-        let name = self.name.normal();
-        let version = self.version;
-        write!(text, "{name} {version} needs ")?;
-        asked.add_needed(text, other.name.normal())?;
-        Ok(true)
+        Ok(Some(Need {
+            of: *self,
+            name: other.name,
+            asked,
+        }))
     }
 
     /// That the lock keeps a version for which nothing else would have to change.
@@ -265,35 +272,4 @@ fn add_before(
         ", which are"
     })?;
     text.push_str(" taken before it")
-}
-
-/// Why a release that the index has counts for nothing in the problem of the lines as they are, where
-/// it doesn't: `requirement` takes every version of its name. Tells whether there is a reason.
-pub fn add_uncounted(
-    alloc: Global,
-    text: &mut String,
-    problem: &Problem<'_>,
-    requirement: &Requirement,
-    wanted: WantedRelease<'_>,
-) -> Result<bool, AllocError> {
-    let Some(place) = place_of(problem.releases(wanted.name), wanted.version, 0) else {
-        return Ok(false);
-    };
-    if admits(problem, requirement, wanted.version) {
-        return Ok(false);
-    }
-    let mut places = Bits::new(alloc);
-    places.insert(place)?;
-    let unadmitted = Unadmitted {
-        problem,
-        requirement,
-        places: &places,
-        extent: Extent::Short,
-    };
-    let mut sentence = String::from_str(alloc, wanted.name.normal())?;
-    sentence.push_str(" ")?;
-    unadmitted.add_reasons(alloc, &mut sentence, "")?;
-    sentence.push_str(".")?;
-    add_wrapped(text, sentence.as_str(), "")?;
-    Ok(true)
 }

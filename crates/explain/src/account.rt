@@ -1,14 +1,14 @@
 // How it is told why a conflict follows.
 
-use crate::dependencies::NeededName;
+use crate::dependencies::lent_node;
 use crate::derivation::{Derivation, ExhaustedNode};
 use crate::exclusion::Exclusion;
-use crate::placed_term::PlacedTerm;
 use crate::sides::{Side, party_of};
 use crate::wording::Extent;
 use lists::Bits;
 use problems::Problem;
 use set_refutations::SetNeed;
+use set_refutations::placed::PlacedTerm;
 use std::alloc::{AllocError, Global};
 
 /// The conflicts of a refutation of a problem, each with why it follows; and how much of them is told.
@@ -76,7 +76,7 @@ impl Derived<'_> {
         exhausted: &ExhaustedNode,
         need: SetNeed,
     ) -> Result<Account, AllocError> {
-        let node = &exhausted.node;
+        let node = &exhausted.sought.node;
         if self.problem.releases(&node.name).is_empty() {
             return Ok(Account::Missing);
         }
@@ -84,7 +84,7 @@ impl Derived<'_> {
             return Ok(Account::Sides(sides));
         }
         let party = party_of(need);
-        let asked = self.asked(conflict, party, NeededName::of(node))?;
+        let asked = self.asked(conflict, party, &lent_node(node))?;
         let exclusions = exhausted.exclusions.as_slice();
         let left = exclusions_within(self.alloc, exclusions, &asked.places)?;
         Ok(Account::Needed(Side { party, asked }, left))

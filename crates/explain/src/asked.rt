@@ -1,14 +1,15 @@
 // What a line or releases ask of a name, in versions of the index.
 
-use crate::dependencies::{NeededName, does_need};
-use crate::placed_term::PlacedTerm;
+use crate::dependencies::Needing;
 use crate::range::{Range, range_of};
 use crate::release_set::add_listed;
 use crate::wording::Extent;
 use lists::Bits;
 use pep508::{Name, Operator, Requirement};
 use phrases::add_requirement;
-use problems::{Node, Problem};
+use problems::Problem;
+use problems::parts::LentNode;
+use set_refutations::placed::PlacedTerm;
 use snapshot::Release;
 use std::alloc::{AllocError, Global};
 
@@ -78,101 +79,12 @@ impl Asked {
     }
 }
 
-/// The places of the releases that match all clauses of a requirement on their name.
-pub fn matching(
-    alloc: Global,
-    problem: &Problem<'_>,
-    requirement: &Requirement,
-) -> Result<Bits, AllocError> {
-    let mut places = Bits::new(alloc);
-    for (place, release) in problem.releases(requirement.name()).iter().enumerate() {
-        if requirement.specifiers().matches(release.version()) {
-            places.insert(place)?;
-        }
-    }
-    Ok(places)
-}
-
-/// The places of all releases of a name.
-pub fn all_places(alloc: Global, problem: &Problem<'_>, name: &Name) -> Result<Bits, AllocError> {
-    let mut places = Bits::new(alloc);
-    for place in 0..problem.releases(name).len() {
-        places.insert(place)?;
-    }
-    Ok(places)
-}
-
-/// Any release of a name.
-pub fn anything(alloc: Global, problem: &Problem<'_>, name: &Name) -> Result<Asked, AllocError> {
-    Ok(Asked {
-        words: Words::Any,
-        places: all_places(alloc, problem, name)?,
-    })
-}
-
-/// What a line asks of its name.
-pub fn asked_by_line(
-    alloc: Global,
-    problem: &Problem<'_>,
-    requirement: &Requirement,
-    extent: Extent,
-) -> Result<Asked, AllocError> {
-    let releases = problem.releases(requirement.name());
-    let places = matching(alloc, problem, requirement)?;
-    asked_of(alloc, releases, places, Vec::new(alloc), extent)
-}
-
-/// What the releases of a term ask of a name: what any of them takes. A requirement that is all of them is told by itself.
-pub fn asked_by_term(
-    alloc: Global,
-    problem: &Problem<'_>,
-    term: &PlacedTerm,
-    needed: NeededName<'_>,
-    extent: Extent,
-) -> Result<Asked, AllocError> {
-    let texts = requirements_of(alloc, problem, term, needed, extent)?;
-    let is_one = texts.len() == 1;
-    let releases = problem.releases(needed.name);
-    let places = taken_by(alloc, problem, term, needed)?;
-    let asked = asked_of(alloc, releases, places, texts, extent)?;
-    if is_one && asked.is_range() {
-        if let Some(requirement) = requirement_on(problem, term, needed) {
-            return Ok(Asked {
-                words: words_of(alloc, requirement)?,
-                places: matching(alloc, problem, requirement)?,
-            });
-        }
-    }
-    Ok(asked)
-}
-
-/// What is asked where of the releases of a name these match, by these requirements.
-fn asked_of(
-    alloc: Global,
-    releases: &[Release],
-    places: Bits,
-    texts: Vec<String>,
-    extent: Extent,
-) -> Result<Asked, AllocError> {
-    if places.is_empty() {
-        let is_told = texts.len() <= extent.most(REQUIREMENTS);
-        let texts = if is_told { texts } else { Vec::new(alloc) };
-        return Ok(Asked {
-            words: Words::Nothing(texts),
-            places,
-        });
-    }
-    if places.places(alloc)?.len() == releases.len() {
-        return Ok(Asked {
-            words: Words::Any,
-            places,
-        });
-    }
-    let Range { text, places } = range_of(alloc, releases, &places, extent)?;
-    Ok(Asked {
-        words: Words::Range(text),
-        places,
-    })
+/// Who tells what is asked of a name.
+#[derive(Clone, Copy)]
+pub struct Asking<'a> {
+    pub alloc: Global,
+    pub problem: &'a Problem<'a>,
+    pub extent: Extent,
 }
 
 /// A lower bound is told in words, another requirement as it stands.
@@ -188,93 +100,179 @@ fn words_of(alloc: Global, requirement: &Requirement) -> Result<Words, AllocErro
     Ok(Words::Requirement(text))
 }
 
-/// The places of the releases that match all that one of a term's releases needs of the name.
-fn taken_by(
-    alloc: Global,
-    problem: &Problem<'_>,
-    term: &PlacedTerm,
-    needed: NeededName<'_>,
-) -> Result<Bits, AllocError> {
-    let mut taken = Bits::new(alloc);
-    let listed = term.places.places(alloc)?;
-    for place in listed.as_slice() {
-        taken.join(&taken_at(alloc, problem, term, *place, needed)?)?;
+impl<'a> Asking<'a> {
+    /// The places of the releases that match all clauses of a requirement on their name.
+    pub fn matching(&self, requirement: &Requirement) -> Result<Bits, AllocError> {
+        let releases = self.problem.releases(requirement.name());
+        let mut places = Bits::new(self.alloc);
+        for (place, release) in releases.iter().enumerate() {
+            if requirement.specifiers().matches(release.version()) {
+                places.insert(place)?;
+            }
+        }
+        Ok(places)
     }
-    Ok(taken)
-}
 
-/// Those that match all that the release at a place needs of the name.
-fn taken_at(
-    alloc: Global,
-    problem: &Problem<'_>,
-    term: &PlacedTerm,
-    place: usize,
-    needed: NeededName<'_>,
-) -> Result<Bits, AllocError> {
-    let mut taken = all_places(alloc, problem, needed.name)?;
-    if let Some(release) = problem.releases(&term.node.name).get(place) {
+    /// The places of all releases of a name.
+    pub fn all_places(&self, name: &Name) -> Result<Bits, AllocError> {
+        let mut places = Bits::new(self.alloc);
+        for place in 0..self.problem.releases(name).len() {
+            places.insert(place)?;
+        }
+        Ok(places)
+    }
+
+    /// Any release of a name.
+    pub fn anything(&self, name: &Name) -> Result<Asked, AllocError> {
+        Ok(Asked {
+            words: Words::Any,
+            places: self.all_places(name)?,
+        })
+    }
+
+    /// What a line asks of its name.
+    pub fn by_line(&self, requirement: &Requirement) -> Result<Asked, AllocError> {
+        let releases = self.problem.releases(requirement.name());
+        let places = self.matching(requirement)?;
+        self.asked_of(releases, places, Vec::new(self.alloc))
+    }
+
+    /// What the releases of a term ask of a name: what any of them takes. A requirement that is all of them is told by itself.
+    pub fn by_term(&self, term: &PlacedTerm, needed: &LentNode<'_>) -> Result<Asked, AllocError> {
+        let texts = self.requirements_of(term, needed)?;
+        let is_one = texts.len() == 1;
+        let releases = self.problem.releases(needed.name);
+        let places = self.taken_by(term, needed)?;
+        let asked = self.asked_of(releases, places, texts)?;
+        if is_one && asked.is_range() {
+            if let Some(requirement) = self.requirement_on(term, needed) {
+                return Ok(Asked {
+                    words: words_of(self.alloc, requirement)?,
+                    places: self.matching(requirement)?,
+                });
+            }
+        }
+        Ok(asked)
+    }
+
+    /// What is asked where of the releases of a name these match, by these requirements.
+    fn asked_of(
+        &self,
+        releases: &[Release],
+        places: Bits,
+        texts: Vec<String>,
+    ) -> Result<Asked, AllocError> {
+        if places.is_empty() {
+            let is_told = texts.len() <= self.extent.most(REQUIREMENTS);
+            let texts = if is_told { texts } else { Vec::new(self.alloc) };
+            return Ok(Asked {
+                words: Words::Nothing(texts),
+                places,
+            });
+        }
+        if places.places(self.alloc)?.len() == releases.len() {
+            return Ok(Asked {
+                words: Words::Any,
+                places,
+            });
+        }
+        let Range { text, places } = range_of(self.alloc, releases, &places, self.extent)?;
+        Ok(Asked {
+            words: Words::Range(text),
+            places,
+        })
+    }
+
+    /// The releases of a term, where they need a node.
+    fn needing<'t>(
+        &self,
+        term: &'t PlacedTerm,
+        name: &'t Name,
+        extra: Option<&'t Name>,
+    ) -> Needing<'t>
+    where
+        'a: 't,
+    {
+        Needing {
+            problem: self.problem,
+            node: &term.node,
+            needed: LentNode { name, extra },
+        }
+    }
+
+    /// The places of the releases that match all that one of a term's releases needs of the name.
+    fn taken_by(&self, term: &PlacedTerm, needed: &LentNode<'_>) -> Result<Bits, AllocError> {
+        let needing = self.needing(term, needed.name, needed.extra);
+        let mut taken = Bits::new(self.alloc);
+        for (place, release) in needing.releases().iter().enumerate() {
+            if term.places.has(place) {
+                taken.join(&self.taken_at(release, &needing)?)?;
+            }
+        }
+        Ok(taken)
+    }
+
+    /// Those that match all that a release needs of the name.
+    fn taken_at(&self, release: &Release, needing: &Needing<'_>) -> Result<Bits, AllocError> {
+        let mut taken = self.all_places(needing.needed.name)?;
         for dependency in release.dependencies() {
-            if does_need(problem, &term.node, dependency, needed) {
-                taken.keep(&matching(alloc, problem, dependency)?);
+            if needing.is_by(dependency) {
+                taken.keep(&self.matching(dependency)?);
             }
         }
+        Ok(taken)
     }
-    Ok(taken)
-}
 
-/// The different requirements by which the releases of a term need a name, from the oldest release on, as far as they are
-/// told and one more.
-pub fn requirements_of(
-    alloc: Global,
-    problem: &Problem<'_>,
-    term: &PlacedTerm,
-    needed: NeededName<'_>,
-    extent: Extent,
-) -> Result<Vec<String>, AllocError> {
-    let most = extent.most(REQUIREMENTS);
-    let mut texts: Vec<String> = Vec::new(alloc);
-    let listed = term.places.places(alloc)?;
-    for place in listed.as_slice().iter().rev() {
-        if texts.len() <= most {
-            add_requirements(alloc, &mut texts, problem, (&term.node, *place), needed)?;
-        }
-    }
-    Ok(texts)
-}
-
-/// Those of the release at a place.
-fn add_requirements(
-    alloc: Global,
-    texts: &mut Vec<String>,
-    problem: &Problem<'_>,
-    of: (&Node, usize),
-    needed: NeededName<'_>,
-) -> Result<(), AllocError> {
-    let (node, place) = of;
-    let Some(release) = problem.releases(&node.name).get(place) else {
-        return Ok(());
-    };
-    for dependency in release.dependencies() {
-        if does_need(problem, node, dependency, needed) {
-            let mut text = String::new(alloc);
-            add_requirement(&mut text, dependency)?;
-            if !texts.iter().any(|other| other.as_str() == text.as_str()) {
-                texts.push(text)?;
+    /// The different requirements by which the releases of a term need a name, from the oldest release on, as far as they are
+    /// told and one more.
+    pub fn requirements_of(
+        &self,
+        term: &PlacedTerm,
+        needed: &LentNode<'_>,
+    ) -> Result<Vec<String>, AllocError> {
+        let most = self.extent.most(REQUIREMENTS);
+        let needing = self.needing(term, needed.name, needed.extra);
+        let listed = term.places.places(self.alloc)?;
+        let mut texts: Vec<String> = Vec::new(self.alloc);
+        for place in listed.as_slice().iter().rev() {
+            if let (true, Some(release)) = (texts.len() <= most, needing.releases().get(*place)) {
+                self.add_requirements(&mut texts, release, &needing)?;
             }
         }
+        Ok(texts)
     }
-    Ok(())
-}
 
-/// A requirement by which the newest release of the term needs the name.
-pub fn requirement_on<'p>(
-    problem: &'p Problem<'_>,
-    term: &PlacedTerm,
-    needed: NeededName<'_>,
-) -> Option<&'p Requirement> {
-    let place = term.places.first_from(0)?;
-    let release = problem.releases(&term.node.name).get(place)?;
-    release.dependencies().iter().find(|dependency| does_need(
-        problem, &term.node, dependency, needed,
-    ))
+    /// Those of a release.
+    fn add_requirements(
+        &self,
+        texts: &mut Vec<String>,
+        release: &Release,
+        needing: &Needing<'_>,
+    ) -> Result<(), AllocError> {
+        for dependency in release.dependencies() {
+            if needing.is_by(dependency) {
+                let mut text = String::new(self.alloc);
+                add_requirement(&mut text, dependency)?;
+                if !texts.iter().any(|other| other.as_str() == text.as_str()) {
+                    texts.push(text)?;
+                }
+            }
+        }
+        Ok(())
+    }
+
+    /// A requirement by which the newest release of the term needs the name.
+    pub fn requirement_on(
+        &self,
+        term: &PlacedTerm,
+        needed: &LentNode<'_>,
+    ) -> Option<&'a Requirement> {
+        let place = term.places.first_from(0)?;
+        let release = self.problem.releases(&term.node.name).get(place)?;
+        let needing = self.needing(term, needed.name, needed.extra);
+        release
+            .dependencies()
+            .iter()
+            .find(|dependency| needing.is_by(dependency))
+    }
 }

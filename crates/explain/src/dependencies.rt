@@ -2,54 +2,41 @@
 
 use lists::Bits;
 use pep508::{Name, Requirement};
-use problems::parts::admissions;
+use problems::parts::{LentNode, admissions};
 use problems::{Node, Problem};
+use snapshot::Release;
 use std::alloc::{AllocError, Global};
 
-/// A name that is needed, with an extra or with none.
-#[derive(Clone, Copy)]
-pub struct NeededName<'a> {
-    pub name: &'a Name,
-    pub extra: Option<&'a Name>,
+/// The node of a name without an extra.
+pub fn bare_node(name: &Name) -> LentNode<'_> {
+    LentNode { name, extra: None }
 }
 
-impl<'a> NeededName<'a> {
-    /// The name without an extra.
-    pub fn bare(name: &'a Name) -> NeededName<'a> {
-        NeededName { name, extra: None }
-    }
-
-    /// The name with the extra of a node.
-    pub fn of(node: &'a Node) -> NeededName<'a> {
-        NeededName {
-            name: &node.name,
-            extra: node.extra.as_ref(),
-        }
-    }
-
-    /// Whether a requirement needs it.
-    pub fn is_in(&self, requirement: &Requirement) -> bool {
-        if requirement.name().normal() != self.name.normal() {
-            return false;
-        }
-        match self.extra {
-            None => true,
-            Some(extra) => requirement
-                .extras()
-                .iter()
-                .any(|other| other.normal() == extra.normal()),
-        }
+/// A node, lent.
+pub fn lent_node(node: &Node) -> LentNode<'_> {
+    LentNode {
+        name: &node.name,
+        extra: node.extra.as_ref(),
     }
 }
 
-/// Whether a dependency counts at the node of its release, and needs the name.
-pub fn does_need(
-    problem: &Problem<'_>,
-    node: &Node,
-    dependency: &Requirement,
-    needed: NeededName<'_>,
-) -> bool {
-    needed.is_in(dependency) && problem.does_count(node, dependency)
+/// Whether a requirement needs a node.
+pub fn does_need(requirement: &Requirement, node: &LentNode<'_>) -> bool {
+    if requirement.name() != node.name {
+        return false;
+    }
+    match node.extra {
+        None => true,
+        Some(extra) => requirement.extras().iter().any(|other| other == extra),
+    }
+}
+
+/// A node whose releases may need another one.
+#[derive(Drop)]
+pub struct Needing<'a> {
+    pub problem: &'a Problem<'a>,
+    pub node: &'a Node,
+    pub needed: LentNode<'a>,
 }
 
 /// Puts the places of what isn't admitted to others.
@@ -62,23 +49,26 @@ fn add_unadmitted(refused: &mut Bits, admitted: &[bool]) -> Result<(), AllocErro
     Ok(())
 }
 
-/// The places of the releases of a name that something refuses which the release at a place needs at its node.
-pub fn refused_at(
-    alloc: Global,
-    problem: &Problem<'_>,
-    node: &Node,
-    place: usize,
-    name: &Name,
-) -> Result<Bits, AllocError> {
-    let mut refused = Bits::new(alloc);
-    let Some(release) = problem.releases(&node.name).get(place) else {
-        return Ok(refused);
-    };
-    for dependency in release.dependencies() {
-        if does_need(problem, node, dependency, NeededName::bare(name)) {
-            let admitted = admissions(alloc, problem, dependency)?;
-            add_unadmitted(&mut refused, admitted.as_slice())?;
-        }
+impl<'a> Needing<'a> {
+    /// The releases of the node's name, newest first.
+    pub fn releases(&self) -> &'a [Release] {
+        self.problem.releases(&self.node.name)
     }
-    Ok(refused)
+
+    /// Whether a dependency of one of them counts at the node, and needs the other one.
+    pub fn is_by(&self, dependency: &Requirement) -> bool {
+        does_need(dependency, &self.needed) && self.problem.does_count(self.node, dependency)
+    }
+
+    /// The places of the releases of the needed name that something refuses which one of them needs.
+    pub fn refused_by(&self, alloc: Global, release: &Release) -> Result<Bits, AllocError> {
+        let mut refused = Bits::new(alloc);
+        for dependency in release.dependencies() {
+            if self.is_by(dependency) {
+                let admitted = admissions(alloc, self.problem, dependency)?;
+                add_unadmitted(&mut refused, admitted.as_slice())?;
+            }
+        }
+        Ok(refused)
+    }
 }

@@ -1,10 +1,9 @@
 // Why the conflicts of a set refutation follow.
 
-use crate::dependencies::NeededName;
+use crate::dependencies::{does_need, lent_node};
 use crate::exclusion::{Earlier, Exclusion};
-use crate::placed_term::{PlacedTerm, are_one, candidate_places};
-use problems::parts::copy_of;
 use problems::{Node, Problem};
+use set_refutations::placed::{PlacedConflicts, PlacedTerm, candidate_places};
 use set_refutations::{SetGround, SetNeed};
 use std::alloc::{AllocError, Global};
 
@@ -22,7 +21,8 @@ pub enum Derivation {
 /// A node of which no release is left beside a conflict.
 #[derive(Drop)]
 pub struct ExhaustedNode {
-    pub node: Node,
+    /// The node, with those of its releases that are excluded: all candidates, or those of a term of the conflict.
+    pub sought: PlacedTerm,
     /// What needs the node. Nothing where a term of the conflict is on it, whose releases alone are excluded.
     pub need: Option<SetNeed>,
     /// The earlier conflicts by which they are excluded.
@@ -46,16 +46,16 @@ impl Derivation {
         }
     }
 
-    /// Whether the conflict joins others at the node.
-    pub fn joins_at(&self, node: &Node) -> bool {
+    /// Whether the conflict joins others at the node of a term.
+    pub fn joins_at(&self, term: &PlacedTerm) -> bool {
         match self {
             Derivation::Exhausted(
                 ExhaustedNode {
-                    node: own,
+                    sought,
                     need: None,
                     ..
                 },
-            ) => are_one(own, node),
+            ) => sought.is_beside(term),
             _ => false,
         }
     }
@@ -73,55 +73,58 @@ impl Derivation {
 pub fn derivations(
     alloc: Global,
     problem: &Problem<'_>,
-    conflicts: &[Vec<PlacedTerm>],
+    placed: &PlacedConflicts,
     grounds: &[SetGround<'_>],
 ) -> Result<Vec<Derivation>, AllocError> {
-    let mut derived = Vec::new(alloc);
-    for (conflict, ground) in conflicts.iter().zip(grounds) {
-        let earlier = Earlier {
-            conflicts,
-            derivations: derived.as_slice(),
-        };
-        let derivation = derivation_by(alloc, problem, earlier, conflict.as_slice(), *ground)?;
+    let mut derived = Vec::with_capacity(alloc, grounds.len())?;
+    for ground in grounds {
+        let before = derived.as_slice();
+        let derivation = derivation_by(alloc, problem, placed, before, *ground)?;
         derived.push(derivation)?;
     }
     Ok(derived)
 }
 
-/// A ground with the earlier conflicts that are told of it.
+/// The ground of the conflict behind those of these derivations, with the earlier conflicts that are told of it.
 fn derivation_by(
     alloc: Global,
     problem: &Problem<'_>,
-    earlier: Earlier<'_>,
-    conflict: &[PlacedTerm],
+    placed: &PlacedConflicts,
+    derivations: &[Derivation],
     ground: SetGround<'_>,
 ) -> Result<Derivation, AllocError> {
+    let conflict = placed.terms(derivations.len());
     match ground {
         SetGround::LineRefuses(line, term) => Ok(Derivation::Line(line, term)),
         SetGround::TermsClash(one, other) => Ok(Derivation::Clash(one, other)),
-        SetGround::EachVersion(place) => {
+        SetGround::EachVersion(at) => {
             // a ground names a term that is there
-            let Some(term) = conflict.get(place) else {
-                return Ok(Derivation::Clash(place, place));
+            let Some(term) = conflict.get(at) else {
+                return Ok(Derivation::Clash(at, at));
             };
-            let node = term.node.clone()?;
-            let exclusions = earlier.exclusions(alloc, conflict, &node, &term.places)?;
+            let sought = term.over(&term.places)?;
+            let earlier = Earlier {
+                conflicts: placed.as_slice(),
+                derivations,
+            };
+            let exclusions = earlier.exclusions(alloc, conflict, &sought)?;
             Ok(Derivation::Exhausted(ExhaustedNode {
-                node,
+                sought,
                 need: None,
                 exclusions,
             }))
         }
         SetGround::NoneLeft(need, name, extra) => {
             let left = candidate_places(alloc, problem, name)?;
-            let node = Node {
-                name: name.clone()?,
-                extra: copy_of(extra)?,
+            let sought = placed.term(name, extra, left)?;
+            let earlier = Earlier {
+                conflicts: placed.as_slice(),
+                derivations,
             };
-            let exclusions = earlier.exclusions(alloc, conflict, &node, &left)?;
-            let need = told_need(problem, earlier, need, &node, exclusions.as_slice());
+            let exclusions = earlier.exclusions(alloc, conflict, &sought)?;
+            let need = told_need(problem, earlier, need, &sought.node, exclusions.as_slice());
             Ok(Derivation::Exhausted(ExhaustedNode {
-                node,
+                sought,
                 need: Some(need),
                 exclusions,
             }))
@@ -157,7 +160,7 @@ fn told_need(
 /// Whether the active line at a place needs a node.
 fn does_line_need(problem: &Problem<'_>, place: usize, node: &Node) -> bool {
     match problem.active.as_slice().get(place) {
-        Some(line) => NeededName::of(node).is_in(line),
+        Some(line) => does_need(line, &lent_node(node)),
         None => false,
     }
 }

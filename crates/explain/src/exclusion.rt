@@ -1,9 +1,8 @@
 // Which earlier conflicts leave no release at a node.
 
 use crate::derivation::Derivation;
-use crate::placed_term::PlacedTerm;
 use lists::Bits;
-use problems::Node;
+use set_refutations::placed::{PlacedTerm, binding};
 use std::alloc::{AllocError, Global};
 
 /// An earlier conflict, and the releases at a node that it excludes beside the other terms of a conflict.
@@ -18,16 +17,6 @@ pub struct Exclusion {
 pub struct Earlier<'a> {
     pub conflicts: &'a [Vec<PlacedTerm>],
     pub derivations: &'a [Derivation],
-}
-
-/// Whether a term is on the node of an earlier conflict's term, and has nothing outside of it.
-pub fn binds(own: &PlacedTerm, term: &PlacedTerm) -> bool {
-    own.is_beside(term) && own.places.lies_within(&term.places)
-}
-
-/// The term of a conflict that binds an earlier one's term.
-pub fn binding<'c>(term: &PlacedTerm, conflict: &'c [PlacedTerm]) -> Option<&'c PlacedTerm> {
-    conflict.iter().find(|own| binds(own, term))
 }
 
 /// The releases of those that are wanted at a node, with which the conflict contains the earlier one; nothing where it does with
@@ -101,24 +90,22 @@ fn take_widest(
 }
 
 impl Earlier<'_> {
-    /// Earlier conflicts that together exclude these releases at the node, as far as they do: each with
-    /// those that the ones before it leave. Those that need no step of their own come first. One that joins
-    /// others at the node is none of them: these can stand for it.
+    /// Earlier conflicts that together exclude the releases of a term at its node, as far as they do: each
+    /// with those that the ones before it leave. Those that need no step of their own come first. One that
+    /// joins others at the node is none of them: these can stand for it.
     pub fn exclusions(
         &self,
         alloc: Global,
         conflict: &[PlacedTerm],
-        node: &Node,
-        wanted: &Bits,
+        sought: &PlacedTerm,
     ) -> Result<Vec<Exclusion>, AllocError> {
-        let sought = PlacedTerm::new(node.clone()?, wanted.clone()?);
         let mut plain = Vec::new(alloc);
         let mut others = Vec::new(alloc);
         for (at, (old, derivation)) in self.conflicts.iter().zip(self.derivations).enumerate() {
-            if derivation.joins_at(node) {
+            if derivation.joins_at(sought) {
                 continue;
             }
-            if let Some(places) = excluded_by(alloc, old.as_slice(), conflict, &sought)? {
+            if let Some(places) = excluded_by(alloc, old.as_slice(), conflict, sought)? {
                 let exclusion = Exclusion {
                     conflict: at,
                     places,
@@ -130,7 +117,7 @@ impl Earlier<'_> {
                 }
             }
         }
-        let mut left = wanted.clone()?;
+        let mut left = sought.places.clone()?;
         let mut taken = Vec::new(alloc);
         take_widest(alloc, plain.as_slice(), &mut left, &mut taken)?;
         take_widest(alloc, others.as_slice(), &mut left, &mut taken)?;

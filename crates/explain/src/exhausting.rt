@@ -1,9 +1,8 @@
 // Which earlier conflicts can leave nothing of a node beside a conflict.
 
-use crate::exclusion::binding;
-use crate::placed_term::{PlacedTerm, candidate_places};
 use lists::Bits;
 use problems::Problem;
+use set_refutations::placed::{PlacedTerm, Unbound, candidate_places, unbound_in};
 use std::alloc::{AllocError, Global};
 
 /// A node, the releases that some earlier conflicts exclude there beside a conflict, and the places of these.
@@ -11,29 +10,6 @@ use std::alloc::{AllocError, Global};
 struct Excluded {
     term: PlacedTerm,
     conflicts: Vec<usize>,
-}
-
-/// The terms of an earlier conflict that another one doesn't bind.
-#[derive(Clone, Copy)]
-enum Unbound<'a> {
-    Nothing,
-    /// They are on one node: the first of them.
-    One(&'a PlacedTerm),
-    Several,
-}
-
-fn unbound_in<'a>(old: &'a [PlacedTerm], own: &[PlacedTerm]) -> Unbound<'a> {
-    let mut found = Unbound::Nothing;
-    for term in old {
-        if binding(term, own).is_none() {
-            match found {
-                Unbound::Nothing => found = Unbound::One(term),
-                Unbound::One(first) if first.is_beside(term) => {}
-                _ => return Unbound::Several,
-            }
-        }
-    }
-    found
 }
 
 /// For each earlier conflict whether it can be one of those by which nothing is left of a node beside this conflict. No other

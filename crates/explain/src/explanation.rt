@@ -9,42 +9,26 @@ use crate::derivation::{Derivation, derivations};
 use crate::grounds::grounds_of;
 use crate::line_name::line_names;
 use crate::narrowed_refutation::narrowed_refutation;
-use crate::placed_term::{PlacedTerm, placed_conflicts};
 use crate::sentences::Sentences;
 use crate::sentences::steps::{cited_lines, first_missing, told_steps};
 use crate::wording::Wording;
 use problems::Problem;
 use search::Watch;
-use set_refutations::SetRefutation;
+use set_refutations::PlacedRefutation;
 use std::alloc::{AllocError, Global};
 use std::marker::Model;
 
-/// The conflicts of a refutation, each with why it follows from those before it.
-struct Followed {
-    conflicts: Vec<Vec<PlacedTerm>>,
-    derivations: Vec<Derivation>,
-}
-
-impl Drop for Followed {
-    fn drop(self) {
-        let Followed {
-            conflicts: _,
-            derivations: _,
-        } = self;
-    }
-}
-
 /// A set refutation of a problem, with why each of its conflicts follows. In a clause it is the refutation.
 pub struct Explanation {
-    refutation: SetRefutation,
-    followed: Followed,
+    refutation: PlacedRefutation,
+    derivations: Vec<Derivation>,
 }
 
 impl Drop for Explanation {
     fn drop(self) {
         let Explanation {
             refutation: _,
-            followed: _,
+            derivations: _,
         } = self;
     }
 }
@@ -59,30 +43,22 @@ impl Model for Explanation {
 }
 
 /// Why each conflict of a refutation of the problem follows; nothing where the list is none.
-fn conflicts_of<W: Watch>(
+fn derived<W: Watch>(
     alloc: Global,
     problem: &Problem<'_>,
-    refutation: &SetRefutation,
+    refutation: &PlacedRefutation,
     watch: &mut W,
-) -> Result<Option<Followed>, AllocError>
+) -> Result<Option<Vec<Derivation>>, AllocError>
     ensures { IfOk result
         (λ found. MatchOption found
         (IsSetRefutation (rules_of problem.now) same_version refutation.now → ⊥)
         (λ _. IsSetRefutation (rules_of problem.now) same_version refutation.now)) }
 {
-    let conflicts = placed_conflicts(alloc, problem, refutation.conflicts())?;
-    match grounds_of(alloc, problem, refutation, conflicts.as_slice(), watch)? {
+    match grounds_of(alloc, problem, refutation, watch)? {
         Some(grounds) => {
-            let derivations = derivations(
-                alloc,
-                problem,
-                conflicts.as_slice(),
-                grounds.as_slice(),
-            )?;
-            Ok(Some(Followed {
-                conflicts,
-                derivations,
-            }))
+            let placed = refutation.placed();
+            let found = derivations(alloc, problem, placed, grounds.as_slice())?;
+            Ok(Some(found))
         }
         None => Ok(None),
     }
@@ -93,7 +69,7 @@ fn conflicts_of<W: Watch>(
 pub fn explained<W: Watch>(
     alloc: Global,
     problem: &Problem<'_>,
-    refutation: SetRefutation,
+    refutation: PlacedRefutation,
     watch: &mut W,
 ) -> Result<Option<Explanation>, AllocError>
     ensures { IfOk result
@@ -101,8 +77,8 @@ pub fn explained<W: Watch>(
         (IsSetRefutation (rules_of problem.now) same_version refutation → ⊥)
         (IsSetRefutation (rules_of problem.now) same_version)) }
 {
-    match conflicts_of(alloc, problem, &refutation, watch)? {
-        Some(whole) => Ok(Some(narrowed(alloc, problem, refutation, whole, watch)?)),
+    match derived(alloc, problem, &refutation, watch)? {
+        Some(derivations) => Ok(Some(narrowed(alloc, problem, refutation, derivations, watch)?)),
         None => Ok(None),
     }
 }
@@ -111,23 +87,22 @@ pub fn explained<W: Watch>(
 fn narrowed<W: Watch>(
     alloc: Global,
     problem: &Problem<'_>,
-    refutation: SetRefutation,
-    whole: Followed,
+    whole: PlacedRefutation,
+    derivations: Vec<Derivation>,
     watch: &mut W,
 ) -> Result<Explanation, AllocError>
-    requires { IsSetRefutation (rules_of problem.now) same_version refutation }
+    requires { IsSetRefutation (rules_of problem.now) same_version whole }
     ensures { IfOk result (IsSetRefutation (rules_of problem.now) same_version) }
 {
-    let conflicts = whole.conflicts.as_slice();
-    let fewer = narrowed_refutation(alloc, problem, conflicts, whole.derivations.as_slice())?;
-    match conflicts_of(alloc, problem, &fewer, watch)? {
-        Some(followed) => Ok(Explanation {
+    let fewer = narrowed_refutation(alloc, problem, whole.placed(), derivations.as_slice())?;
+    match derived(alloc, problem, &fewer, watch)? {
+        Some(found) => Ok(Explanation {
             refutation: fewer,
-            followed,
+            derivations: found,
         }),
         None => Ok(Explanation {
-            refutation,
-            followed: whole,
+            refutation: whole,
+            derivations,
         }),
     }
 }
@@ -147,8 +122,8 @@ impl Explanation {
             alloc,
             problem,
             extent: wording.extent,
-            conflicts: self.followed.conflicts.as_slice(),
-            derivations: self.followed.derivations.as_slice(),
+            conflicts: self.refutation.terms(),
+            derivations: self.derivations.as_slice(),
         };
         let steps = told_steps(derived)?;
         let cited = cited_lines(derived, steps.as_slice())?;
@@ -161,6 +136,7 @@ impl Explanation {
             steps: steps.as_slice(),
             cited: cited.as_slice(),
             sought: sought.as_slice(),
+            width: wording.width,
         };
         sentences.add_all(text)
     }

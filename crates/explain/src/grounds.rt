@@ -1,54 +1,49 @@
 // What each conflict of a set refutation rests on.
 
-ghost use Rattle.std.specs.Prelude.{◌≡◌, ◌↔◌, ◌++◌, ◌∷◌, [], IfOk, IfSome, IsTrue, List, MatchOption};
-ghost use Rattle.std.specs.List.{Contains};
+ghost use Rattle.std.specs.Prelude.{◌<◌, ℕ, [], IfOk, IfSome, MatchOption, length, map};
+ghost use Rattle.std.specs.List.{Contains, slice_index_or};
 ghost use Rattle.search.specs.SetConflicts.{EachSetFollows, IsSetRefutation, SetFollows};
 ghost use Rattle.problems.specs.Rules.{rules_of, same_version};
 ghost use Rattle.set_refutations.specs.Grounds.{IsSetGround};
-ghost use Rattle.set_refutations.specs.SetRefutations.{TermParts};
 
 use crate::exhausting::exhausting;
-use crate::placed_term::PlacedTerm;
 use lists::Seq;
 use problems::Problem;
-use problems::parts::copy_of;
 use search::Watch;
-use set_refutations::{SetGround, SetRefutation, SetTerm, set_ground_of};
+use set_refutations::placed::PlacedTerm;
+use set_refutations::{
+    EarlierSets, PlacedRefutation, SetGround, SetTerm, ends_empty, set_ground_of,
+};
 use std::alloc::{AllocError, Global};
 
-fn copied(alloc: Global, conflict: &[SetTerm]) -> Result<Seq<SetTerm>, AllocError>
-    ensures { IfOk result (λ copy. copy ≡ conflict.now) }
-{
-    let mut terms = Vec::with_capacity(alloc, conflict.len())?;
-    for term in conflict {
-        let name = term.name.clone()?;
-        let extra = copy_of(term.extra.as_ref())?;
-        let versions = term.versions.clone()?;
-        terms.push(SetTerm {
-            name,
-            extra,
-            versions,
-        })?;
-    }
-    Ok(Seq::from_vec(terms))
-}
-
-/// Those of the earlier conflicts that are marked.
-fn marked(
-    alloc: Global,
-    earlier: &[Seq<SetTerm>],
-    marks: &[bool],
-) -> Result<Seq<Seq<SetTerm>>, AllocError>
+/// The places of those of the earlier conflicts that are marked.
+fn marked(alloc: Global, earlier: &[Seq<SetTerm>], marks: &[bool]) -> Result<Vec<usize>, AllocError>
     ensures { IfOk result
-        (λ found. (old : List TermParts) → Contains found old → Contains earlier.now old) }
+        (λ found. (place : ℕ) → Contains found.items place → place < length earlier.now) }
 {
     let mut found = Vec::new(alloc);
     for at in 0..earlier.len() {
         if marks.get(at).copied().unwrap_or(false) {
-            found.push(copied(alloc, earlier[at].as_slice())?)?;
+            found.push(at)?;
         }
     }
-    Ok(Seq::from_vec(found))
+    Ok(found)
+}
+
+/// What `set_ground_of` gives with the earlier conflicts at some places.
+fn ground_at<'a>(
+    problem: &'a Problem<'_>,
+    earlier: &[Seq<SetTerm>],
+    places: &[usize],
+    conflict: &[SetTerm],
+) -> Option<SetGround<'a>>
+    ensures { MatchOption result
+        (SetFollows (rules_of problem.now) same_version
+        (map (λ place. slice_index_or earlier.now place []) places.now) conflict.now → ⊥)
+        (IsSetGround problem.now (map (λ place. slice_index_or earlier.now place []) places.now)
+        conflict.now) }
+{
+    set_ground_of(problem, &EarlierSets::few(earlier, places), conflict)
 }
 
 /// A ground by which a conflict follows from the few earlier ones that are marked, since each look for one goes through all. There is
@@ -57,7 +52,7 @@ fn ground_by_few<'a>(
     alloc: Global,
     problem: &'a Problem<'_>,
     earlier: &[Seq<SetTerm>],
-    conflict: &'a [SetTerm],
+    conflict: &[SetTerm],
     marks: &[bool],
 ) -> Option<SetGround<'a>>
     ensures { IfSome result (IsSetGround problem.now earlier.now conflict.now) }
@@ -65,7 +60,7 @@ fn ground_by_few<'a>(
     let Ok(few) = marked(alloc, earlier, marks) else {
         return None;
     };
-    set_ground_of(problem, few.as_slice(), conflict)
+    ground_at(problem, earlier, few.as_slice(), conflict)
 }
 
 /// What `set_ground_of` gives, which is looked for among few of the earlier conflicts before it is looked for among all.
@@ -73,7 +68,7 @@ fn ground_among<'a>(
     alloc: Global,
     problem: &'a Problem<'_>,
     earlier: &[Seq<SetTerm>],
-    conflict: &'a [SetTerm],
+    conflict: &[SetTerm],
     marks: &[bool],
 ) -> Option<SetGround<'a>>
     ensures { MatchOption result
@@ -83,7 +78,7 @@ fn ground_among<'a>(
     if let Some(ground) = ground_by_few(alloc, problem, earlier, conflict, marks) {
         return Some(ground);
     }
-    set_ground_of(problem, earlier, conflict)
+    set_ground_of(problem, &EarlierSets::all(earlier), conflict)
 }
 
 /// Which of the conflicts before the one at a place can matter to it.
@@ -103,7 +98,7 @@ fn marks_for(
 fn each_ground<'a, W: Watch>(
     alloc: Global,
     problem: &'a Problem<'_>,
-    conflicts: &'a [Seq<SetTerm>],
+    conflicts: &[Seq<SetTerm>],
     placed: &[Vec<PlacedTerm>],
     watch: &mut W,
 ) -> Result<Option<Vec<SetGround<'a>>>, AllocError>
@@ -130,24 +125,11 @@ fn each_ground<'a, W: Watch>(
     Ok(Some(grounds))
 }
 
-/// Whether the last conflict is empty.
-fn ends_empty(conflicts: &[Seq<SetTerm>]) -> bool
-    ensures { IsTrue result ↔ ((front : List (List TermParts)) × (conflicts.now
-        ≡ front ++ [] ∷ [])) }
-{
-    match conflicts.last() {
-        Some(last) => last.is_empty(),
-        None => false,
-    }
-}
-
-/// A ground for each conflict of a refutation of the problem, in their order; nothing where the list is none. The
-/// conflicts are given as sets of releases too.
+/// A ground for each conflict of a refutation of the problem, in their order; nothing where the list is none.
 pub fn grounds_of<'a, W: Watch>(
     alloc: Global,
     problem: &'a Problem<'_>,
-    refutation: &'a SetRefutation,
-    placed: &[Vec<PlacedTerm>],
+    refutation: &PlacedRefutation,
     watch: &mut W,
 ) -> Result<Option<Vec<SetGround<'a>>>, AllocError>
     ensures { IfOk result
@@ -158,5 +140,11 @@ pub fn grounds_of<'a, W: Watch>(
     if !ends_empty(refutation.conflicts()) {
         return Ok(None);
     }
-    each_ground(alloc, problem, refutation.conflicts(), placed, watch)
+    each_ground(
+        alloc,
+        problem,
+        refutation.conflicts(),
+        refutation.terms(),
+        watch,
+    )
 }

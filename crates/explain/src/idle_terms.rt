@@ -1,9 +1,9 @@
 // Conflicts without the terms on which they don't rest.
 
 use crate::derivation::Derivation;
-use crate::exclusion::{Exclusion, binds};
-use crate::placed_term::PlacedTerm;
+use crate::exclusion::Exclusion;
 use set_refutations::SetNeed;
+use set_refutations::placed::{PlacedTerm, binds};
 use std::alloc::{AllocError, Global};
 
 /// The conflicts with those of their terms alone on which their own derivations rest, up to the first one that has
@@ -53,7 +53,7 @@ fn rests_on(
         Derivation::Clash(one, other) => place == *one || place == *other,
         Derivation::Exhausted(exhausted) => {
             let is_own = match exhausted.need {
-                None => term.is_on(&exhausted.node),
+                None => term.is_beside(&exhausted.sought),
                 Some(SetNeed::Term(at)) => at == place,
                 Some(SetNeed::Line(_)) => false,
             };

@@ -25,7 +25,7 @@ pub fn line_names<'a>(
     let changed = changed_name(alloc, of.changed)?;
     let mut names = Vec::new(alloc);
     for (index, line) in of.lines.iter().enumerate() {
-        if is_active(problem, line) {
+        if line.is_active(&problem.environment) {
             let number = index.saturating_add(1);
             match (of.changed, is_on(line, changed.as_ref())) {
                 (ChangedLine::Removed(_), true) => {}
@@ -56,17 +56,10 @@ fn changed_name(alloc: Global, changed: ChangedLine<'_>) -> Result<Option<Name>,
     }
 }
 
-fn is_active(problem: &Problem<'_>, line: &Line) -> bool {
-    match line.requirement() {
-        Some(wanted) => wanted.is_active(&problem.environment),
-        None => false,
-    }
-}
-
 fn is_on(line: &Line, name: Option<&Name>) -> bool {
-    match (line.requirement(), name) {
-        (Some(wanted), Some(name)) => wanted.name().normal() == name.normal(),
-        _ => false,
+    match name {
+        Some(name) => line.is_on(name),
+        None => false,
     }
 }
 

@@ -1,12 +1,12 @@
 // A set refutation without what its last conflict doesn't rest on.
 
 use crate::derivation::Derivation;
-use crate::exclusion::{Earlier, Exclusion, binding};
+use crate::exclusion::{Earlier, Exclusion};
 use crate::idle_terms::without_idle_terms;
-use crate::placed_term::{PlacedTerm, candidate_places, set_conflict};
-use lists::{Bits, Seq};
+use lists::Bits;
 use problems::Problem;
-use set_refutations::SetRefutation;
+use set_refutations::PlacedRefutation;
+use set_refutations::placed::{PlacedConflicts, PlacedTerm, binding};
 use std::alloc::{AllocError, Global};
 
 /// What of a conflict the later ones rest on: of each of its terms these releases. Nothing rests on it
@@ -22,29 +22,27 @@ struct Share {
 pub fn narrowed_refutation(
     alloc: Global,
     problem: &Problem<'_>,
-    conflicts: &[Vec<PlacedTerm>],
+    placed: &PlacedConflicts,
     derivations: &[Derivation],
-) -> Result<SetRefutation, AllocError> {
-    let lean = without_idle_terms(alloc, conflicts, derivations)?;
+) -> Result<PlacedRefutation, AllocError> {
+    let lean = without_idle_terms(alloc, placed.as_slice(), derivations)?;
     let all = Earlier {
         conflicts: lean.as_slice(),
         derivations,
     };
-    let kept = kept_conflicts(alloc, problem, all)?;
-    let mut narrowed = Vec::new(alloc);
-    for conflict in kept.as_slice().iter().rev() {
-        narrowed.push(set_conflict(alloc, problem, conflict.as_slice())?)?;
+    let mut behind = kept_conflicts(alloc, all)?;
+    let mut kept = Vec::with_capacity(alloc, behind.len())?;
+    for _ in 0..behind.len() {
+        if let Some(conflict) = behind.pop() {
+            kept.push(conflict)?;
+        }
     }
-    Ok(SetRefutation::new(Seq::from_vec(narrowed)))
+    PlacedRefutation::of(alloc, problem, placed.with_conflicts(alloc, kept)?)
 }
 
 /// What is kept of the conflicts: those on which the last one rests, this first, and in their terms the releases alone
 /// that it takes.
-fn kept_conflicts(
-    alloc: Global,
-    problem: &Problem<'_>,
-    all: Earlier<'_>,
-) -> Result<Vec<Vec<PlacedTerm>>, AllocError> {
+fn kept_conflicts(alloc: Global, all: Earlier<'_>) -> Result<Vec<Vec<PlacedTerm>>, AllocError> {
     let mut shares = shares_of(alloc, all.conflicts)?;
     let mut kept = Vec::new(alloc);
     let both = all.conflicts.iter().zip(all.derivations);
@@ -56,7 +54,7 @@ fn kept_conflicts(
                     conflicts: all.conflicts,
                     derivations: all.derivations.get(..at).unwrap_or(&[]),
                 };
-                let rests = exclusions_of(alloc, problem, earlier, own.as_slice(), derivation)?;
+                let rests = exclusions_of(alloc, earlier, own.as_slice(), derivation)?;
                 let before = shares.as_mut_slice();
                 add_uses(before, all.conflicts, own.as_slice(), rests.as_slice())?;
                 kept.push(own)?;
@@ -104,7 +102,6 @@ fn terms_over(
 /// The earlier conflicts on which one rests by its derivation, each with the releases that it excludes.
 fn exclusions_of(
     alloc: Global,
-    problem: &Problem<'_>,
     earlier: Earlier<'_>,
     conflict: &[PlacedTerm],
     derivation: &Derivation,
@@ -112,13 +109,12 @@ fn exclusions_of(
     let Some(exhausted) = derivation.exhausted() else {
         return Ok(Vec::new(alloc));
     };
-    let node = &exhausted.node;
-    let own = conflict.iter().find(|term| term.is_on(node));
-    let wanted = match (exhausted.need, own) {
-        (None, Some(term)) => term.places.clone()?,
-        _ => candidate_places(alloc, problem, &node.name)?,
-    };
-    earlier.exclusions(alloc, conflict, node, &wanted)
+    let sought = &exhausted.sought;
+    let own = conflict.iter().find(|term| term.is_beside(sought));
+    match (exhausted.need, own) {
+        (None, Some(term)) => earlier.exclusions(alloc, conflict, term),
+        _ => earlier.exclusions(alloc, conflict, sought),
+    }
 }
 
 /// Adds what a conflict takes of the earlier ones on which it rests.

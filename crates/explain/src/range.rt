@@ -1,8 +1,8 @@
 // Releases of a name that somebody asks for, as a few runs of versions.
 
-use crate::release_runs::{Run, runs_of, version_text};
 use crate::wording::Extent;
 use lists::Bits;
+use phrases::release_runs::{Run, runs_of, version_text};
 use snapshot::Release;
 use std::alloc::{AllocError, Global};
 

@@ -1,6 +1,7 @@
 // Why a requirement doesn't admit releases of its name.
 
 use crate::release_set::ReleaseSet;
+use crate::verb::Verb;
 use crate::wording::Extent;
 use lists::Bits;
 use pep508::Requirement;
@@ -136,7 +137,7 @@ impl Unadmitted<'_> {
             }
         }
         releases.add_runs(alloc, text)?;
-        releases.add_verb(alloc, text, verbs_of(group.reason))?;
+        releases.add_verb(alloc, text, verb_of(group.reason))?;
         self.add_condition(text, group)
     }
 
@@ -166,13 +167,15 @@ impl Unadmitted<'_> {
     }
 }
 
-/// The verb of a reason, in the singular and in the plural.
-fn verbs_of(reason: Inadmissible) -> (&'static str, &'static str) {
+/// The verb of a reason.
+fn verb_of(reason: Inadmissible) -> Verb {
     match reason {
-        Inadmissible::Clause(_) => (" doesn't match ", " don't match "),
-        Inadmissible::Python => (" needs Python ", " need Python "),
-        Inadmissible::Yanked => (" is yanked", " are yanked"),
-        Inadmissible::PreRelease => (" is a pre-release", " are pre-releases"),
-        Inadmissible::YankedPreRelease => (" is a yanked pre-release", " are yanked pre-releases"),
+        Inadmissible::Clause(_) => Verb::new(" doesn't match ", " don't match "),
+        Inadmissible::Python => Verb::new(" needs Python ", " need Python "),
+        Inadmissible::Yanked => Verb::new(" is yanked", " are yanked"),
+        Inadmissible::PreRelease => Verb::new(" is a pre-release", " are pre-releases"),
+        Inadmissible::YankedPreRelease => {
+            Verb::new(" is a yanked pre-release", " are yanked pre-releases")
+        }
     }
 }

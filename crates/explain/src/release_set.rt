@@ -1,8 +1,9 @@
 // Some releases of a name, as runs of versions.
 
-use crate::release_runs::{Run, runs_of, version_text};
+use crate::verb::{Denial, Verb};
 use crate::wording::Extent;
 use lists::Bits;
+use phrases::release_runs::{Run, runs_of, version_text};
 use snapshot::Release;
 use std::alloc::{AllocError, Global};
 
@@ -65,16 +66,25 @@ impl ReleaseSet<'_> {
         Ok(false)
     }
 
-    /// The verb behind these releases, which is given in the singular and in the plural.
-    pub fn add_verb(
+    /// The verb behind these releases.
+    pub fn add_verb(&self, alloc: Global, text: &mut String, verb: Verb) -> Result<(), AllocError> {
+        let count = self.places.places(alloc)?.len();
+        let are_many = count > 1 && count != self.releases.len();
+        text.push_str(if are_many { verb.many } else { verb.one })
+    }
+
+    /// These releases with a verb that denies something of them, or the verb for all of them where they are every one.
+    pub fn add_denied(
         &self,
         alloc: Global,
         text: &mut String,
-        verbs: (&str, &str),
+        denial: Denial,
     ) -> Result<(), AllocError> {
-        let count = self.places.places(alloc)?.len();
-        let many = count > 1 && count != self.releases.len();
-        text.push_str(if many { verbs.1 } else { verbs.0 })
+        if self.are_every(alloc)? {
+            return text.push_str(denial.all);
+        }
+        self.add_runs(alloc, text)?;
+        self.add_verb(alloc, text, denial.verb)
     }
 
     /// The versions of these releases: `every release` where they are all, and there are several.

@@ -8,19 +8,20 @@ mod left_out;
 mod sentence;
 mod side;
 pub mod steps;
+mod two_lines;
 
 use crate::account::Derived;
-use crate::asked::{Asked, asked_by_term};
-use crate::dependencies::NeededName;
-use crate::line_breaks::add_wrapped;
+use crate::asked::Asked;
+use crate::dependencies::{Needing, bare_node};
 use crate::line_name::{LineName, add_line, add_short};
-use crate::placed_term::PlacedTerm;
 use crate::release_set::ReleaseSet;
 use crate::sentences::chain::{Part, parts_of};
 use crate::sentences::steps::Step;
 use lists::Bits;
 use pep508::{Name, Requirement};
+use phrases::add_wrapped;
 use problems::{Node, Problem};
+use set_refutations::placed::PlacedTerm;
 use std::alloc::{AllocError, Global};
 
 /// What sentences are made of.
@@ -37,13 +38,16 @@ pub struct Sentences<'a> {
     pub cited: &'a [usize],
     /// The conflicts beside which near names are told.
     pub sought: &'a [usize],
+    /// How many characters a line has at most.
+    pub width: usize,
 }
 
 impl Sentences<'_> {
     /// The conclusion, and the sentences with their numbers; then the releases that were left out of the index.
     pub fn add_all(&self, text: &mut String) -> Result<(), AllocError> {
-        if !self.add_front(text)? {
-            self.add_conclusion(text)?;
+        match self.clash()? {
+            Some(clash) => self.add_front(text, &clash)?,
+            None => self.add_conclusion(text)?,
         }
         let parts = parts_of(self.derived, self.steps)?;
         for part in parts.as_slice() {
@@ -55,7 +59,7 @@ impl Sentences<'_> {
         self.add_left_out(text, parts.as_slice())
     }
 
-    /// A sentence with its number, in lines of a terminal's width.
+    /// A sentence with its number.
     fn add_numbered(&self, text: &mut String, place: usize) -> Result<(), AllocError> {
         let Some(step) = self.steps.get(place) else {
             return Ok(());
@@ -64,7 +68,7 @@ impl Sentences<'_> {
         let mut sentence = format!(in self.alloc; "{number}. ")?;
         self.add_sentence(&mut sentence, step)?;
         sentence.push_str(".")?;
-        add_wrapped(text, sentence.as_str(), "   ")
+        add_wrapped(text, sentence.as_str(), "   ", self.width)
     }
 
     /// These releases of a node's name.
@@ -78,9 +82,16 @@ impl Sentences<'_> {
 
     /// What the releases of a term ask of a name.
     fn asked_of(&self, term: &PlacedTerm, name: &Name) -> Result<Asked, AllocError> {
-        let extent = self.derived.extent;
-        let needed = NeededName::bare(name);
-        asked_by_term(self.alloc, self.problem, term, needed, extent)
+        self.derived.asking().by_term(term, &bare_node(name))
+    }
+
+    /// The releases of a term, where they need a name.
+    fn needing<'s>(&'s self, term: &'s PlacedTerm, name: &'s Name) -> Needing<'s> {
+        Needing {
+            problem: self.problem,
+            node: &term.node,
+            needed: bare_node(name),
+        }
     }
 
     /// The requirement of the active line at a place.

@@ -1,15 +1,16 @@
 // Who asks for releases of a name, where what they ask leaves none of it.
 
 use crate::account::Derived;
-use crate::asked::{Asked, Words, all_places, anything, asked_by_line, asked_by_term};
-use crate::dependencies::{NeededName, refused_at};
+use crate::asked::{Asked, Asking, Words};
+use crate::dependencies::{Needing, bare_node};
 use crate::derivation::{Derivation, ExhaustedNode};
 use crate::exclusion::Exclusion;
-use crate::placed_term::{PlacedTerm, candidate_places};
 use lists::Bits;
 use pep508::Name;
 use problems::Node;
+use problems::parts::LentNode;
 use set_refutations::SetNeed;
+use set_refutations::placed::{PlacedTerm, candidate_places};
 use std::alloc::{AllocError, Global};
 
 /// Who asks for releases of a name: a term of the conflict or an active line, by its place; or the lock, which keeps one.
@@ -44,7 +45,16 @@ fn turn_of(party: Party) -> usize {
     }
 }
 
-impl Derived<'_> {
+impl<'a> Derived<'a> {
+    /// Who tells what is asked of a name.
+    pub fn asking(&self) -> Asking<'a> {
+        Asking {
+            alloc: self.alloc,
+            problem: self.problem,
+            extent: self.extent,
+        }
+    }
+
     /// The sides by which alone no release of a needed node is left: those that suffice, terms first. Nothing where there
     /// is more to tell.
     pub fn sides(
@@ -53,13 +63,13 @@ impl Derived<'_> {
         exhausted: &ExhaustedNode,
         need: SetNeed,
     ) -> Result<Option<Vec<Side>>, AllocError> {
-        let name = &exhausted.node.name;
+        let name = &exhausted.sought.node.name;
         let parties = self.parties(conflict, exhausted, need)?;
         let mut sides = Vec::new(self.alloc);
         for turn in 0..3 {
             for party in parties.as_slice() {
                 if turn_of(*party) == turn {
-                    let asked = self.asked(conflict, *party, NeededName::bare(name))?;
+                    let asked = self.asked(conflict, *party, &bare_node(name))?;
                     sides.push(Side {
                         party: *party,
                         asked,
@@ -67,7 +77,7 @@ impl Derived<'_> {
                 }
             }
         }
-        let all = all_places(self.alloc, self.problem, name)?;
+        let all = self.asking().all_places(name)?;
         least_sides(self.alloc, all, sides)
     }
 
@@ -78,7 +88,7 @@ impl Derived<'_> {
         exhausted: &ExhaustedNode,
         need: SetNeed,
     ) -> Result<Vec<Party>, AllocError> {
-        let node = &exhausted.node;
+        let node = &exhausted.sought.node;
         let mut parties = Vec::new(self.alloc);
         parties.push(party_of(need))?;
         for exclusion in exhausted.exclusions.as_slice() {
@@ -104,7 +114,7 @@ impl Derived<'_> {
         match self.derivations.get(exclusion.conflict)? {
             Derivation::Line(place, _) => Some(Party::Line(*place)),
             Derivation::Clash(one, other) => {
-                let beside = self.beside(exclusion.conflict, (*one, *other), node)?;
+                let beside = self.beside(exclusion.conflict, *one, *other, node)?;
                 let at = conflict.iter().position(|term| term.is_on(&beside.node))?;
                 Some(Party::Term(at))
             }
@@ -113,10 +123,10 @@ impl Derived<'_> {
     }
 
     /// The term of an earlier conflict that clashes with one on the node: of these two the other one.
-    pub fn beside(&self, at: usize, terms: (usize, usize), node: &Node) -> Option<&PlacedTerm> {
+    pub fn beside(&self, at: usize, one: usize, other: usize, node: &Node) -> Option<&PlacedTerm> {
         let earlier = self.conflicts.get(at)?;
-        let one = earlier.get(terms.0)?;
-        let other = earlier.get(terms.1)?;
+        let one = earlier.get(one)?;
+        let other = earlier.get(other)?;
         Some(if one.is_on(node) { other } else { one })
     }
 
@@ -127,10 +137,15 @@ impl Derived<'_> {
         name: &Name,
         places: &Bits,
     ) -> Result<bool, AllocError> {
-        let listed = term.places.places(self.alloc)?;
-        for place in listed.as_slice() {
-            let refused = refused_at(self.alloc, self.problem, &term.node, *place, name)?;
-            if !places.lies_within(&refused) {
+        let needing = Needing {
+            problem: self.problem,
+            node: &term.node,
+            needed: bare_node(name),
+        };
+        for (place, release) in needing.releases().iter().enumerate() {
+            if term.places.has(place)
+                && !places.lies_within(&needing.refused_by(self.alloc, release)?)
+            {
                 return Ok(false);
             }
         }
@@ -142,17 +157,18 @@ impl Derived<'_> {
         &self,
         conflict: &[PlacedTerm],
         party: Party,
-        needed: NeededName<'_>,
+        needed: &LentNode<'_>,
     ) -> Result<Asked, AllocError> {
         let problem = self.problem;
+        let asking = self.asking();
         match party {
             Party::Term(at) => match conflict.get(at) {
-                Some(term) => asked_by_term(self.alloc, problem, term, needed, self.extent),
-                None => anything(self.alloc, problem, needed.name),
+                Some(term) => asking.by_term(term, needed),
+                None => asking.anything(needed.name),
             },
             Party::Line(place) => match problem.active.as_slice().get(place) {
-                Some(requirement) => asked_by_line(self.alloc, problem, requirement, self.extent),
-                None => anything(self.alloc, problem, needed.name),
+                Some(requirement) => asking.by_line(requirement),
+                None => asking.anything(needed.name),
             },
             Party::Lock => self.asked_by_lock(needed.name),
         }

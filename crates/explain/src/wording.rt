@@ -1,4 +1,4 @@
-// How sentences name lines, and how much they leave out.
+// How sentences name lines, how much they leave out, and how wide they are.
 
 use crate::changed_lines::ChangedLines;
 
@@ -28,4 +28,6 @@ pub struct Wording<'a> {
     /// The lines by which they name those of the problem.
     pub lines: ChangedLines<'a>,
     pub extent: Extent,
+    /// How many characters a line has at most, unless one word has more.
+    pub width: usize,
 }

@@ -1,18 +1,19 @@
 // What excludes releases of a node.
 
-use crate::asked::{Words, requirement_on, requirements_of};
-use crate::dependencies::NeededName;
+use crate::asked::Words;
+use crate::dependencies::bare_node;
 use crate::derivation::{Derivation, ExhaustedNode};
 use crate::exclusion::Exclusion;
-use crate::placed_term::PlacedTerm;
 use crate::reasons::Unadmitted;
 use crate::release_set::ReleaseSet;
 use crate::sentences::steps::number_of;
 use crate::sentences::{Sentences, add_node};
+use crate::verb::{Denial, Verb};
 use lists::Bits;
 use problems::Node;
 use set_refutations::SetNeed;
-use std::alloc::{AllocError, Global};
+use set_refutations::placed::PlacedTerm;
+use std::alloc::AllocError;
 
 /// Releases of a node that don't go with a term.
 #[derive(Clone, Copy)]
@@ -22,6 +23,13 @@ struct Clashing<'a> {
     /// The term, and whether it is what needs the node.
     beside: &'a PlacedTerm,
     is_needing: bool,
+}
+
+/// Releases of a node that are excluded by what they need of another term's name alone, and that term.
+#[derive(Drop)]
+pub struct OwnNeed<'a> {
+    term: PlacedTerm,
+    beside: &'a PlacedTerm,
 }
 
 impl Sentences<'_> {
@@ -38,15 +46,12 @@ impl Sentences<'_> {
                 self.add_line_cause(text, exhausted.need, *place, &exclusion.places)
             }
             Some(Derivation::Clash(one, other)) => {
-                let terms = (*one, *other);
-                match self
-                    .derived
-                    .beside(exclusion.conflict, terms, &exhausted.node)
-                {
+                let node = &exhausted.sought.node;
+                match self.derived.beside(exclusion.conflict, *one, *other, node) {
                     Some(beside) => {
                         let beside = bound_term(conflict, beside);
                         let clashing = Clashing {
-                            node: &exhausted.node,
+                            node,
                             places: &exclusion.places,
                             beside,
                             is_needing: is_needing(conflict, exhausted.need, &beside.node),
@@ -56,40 +61,40 @@ impl Sentences<'_> {
                     None => Ok(()),
                 }
             }
-            _ => self.add_step(text, &exhausted.node, exclusion),
+            _ => self.add_step(text, &exhausted.sought.node, exclusion),
         }
     }
 
-    /// What the excluded releases need, where they are excluded by their need of a term's name alone. Tells whether it is so.
-    pub fn add_own_need(
-        &self,
-        text: &mut String,
-        conflict: &[PlacedTerm],
+    /// The excluded releases with a term, where they are excluded by their need of its name alone.
+    pub fn own_need<'s>(
+        &'s self,
+        conflict: &'s [PlacedTerm],
         exhausted: &ExhaustedNode,
         exclusion: &Exclusion,
-    ) -> Result<bool, AllocError> {
+    ) -> Result<Option<OwnNeed<'s>>, AllocError> {
         let Some(Derivation::Clash(one, other)) = self.derived.derivations.get(exclusion.conflict)
         else {
-            return Ok(false);
+            return Ok(None);
         };
-        let terms = (*one, *other);
-        let Some(beside) = self
-            .derived
-            .beside(exclusion.conflict, terms, &exhausted.node)
-        else {
-            return Ok(false);
+        let node = &exhausted.sought.node;
+        let Some(beside) = self.derived.beside(exclusion.conflict, *one, *other, node) else {
+            return Ok(None);
         };
         let beside = bound_term(conflict, beside);
-        let term = PlacedTerm::new(exhausted.node.clone()?, exclusion.places.clone()?);
+        let term = exhausted.sought.over(&exclusion.places)?;
         if !self
             .derived
             .each_refuses(&term, &beside.node.name, &beside.places)?
         {
-            return Ok(false);
+            return Ok(None);
         }
+        Ok(Some(OwnNeed { term, beside }))
+    }
+
+    /// What these releases need.
+    pub fn add_own_need(&self, text: &mut String, need: &OwnNeed<'_>) -> Result<(), AllocError> {
         text.push_str(", which needs ")?;
-        self.add_needs_apart(text, &term, beside)?;
-        Ok(true)
+        self.add_needs_apart(text, &need.term, need.beside)
     }
 
     /// What releases need of a term's name; and that they don't need this term, unless no release of the term is one of those
@@ -119,7 +124,11 @@ impl Sentences<'_> {
     ) -> Result<(), AllocError> {
         let releases = self.set_of(node, &exclusion.places);
         releases.add_runs(self.alloc, text)?;
-        releases.add_verb(self.alloc, text, (" is ruled out by", " are ruled out by"))?;
+        releases.add_verb(
+            self.alloc,
+            text,
+            Verb::new(" is ruled out by", " are ruled out by"),
+        )?;
         if let Some(number) = number_of(self.steps, exclusion.conflict) {
             write!(text, " {number}")?;
         }
@@ -171,12 +180,12 @@ impl Sentences<'_> {
         let releases = self.set_of(node, places);
         let term = PlacedTerm::new(node.clone()?, places.clone()?);
         if !derived.each_refuses(&term, &beside.node.name, &beside.places)? {
-            let verbs = ("none goes with ", " doesn't go with ", " don't go with ");
-            add_negated(self.alloc, text, releases, verbs)?;
+            let denial = Denial::new("none goes with ", " doesn't go with ", " don't go with ");
+            releases.add_denied(self.alloc, text, denial)?;
             return add_node(text, &beside.node);
         }
         releases.add_runs(self.alloc, text)?;
-        releases.add_verb(self.alloc, text, (" needs ", " need "))?;
+        releases.add_verb(self.alloc, text, Verb::needs())?;
         self.add_needs(text, &term, &beside.node)
     }
 
@@ -199,20 +208,20 @@ impl Sentences<'_> {
             beside,
             is_needing,
         } = clashing;
-        let needed = NeededName::bare(&node.name);
+        let needed = bare_node(&node.name);
         let mut of = String::new(self.alloc);
         if !is_needing {
             add_node(&mut of, &beside.node)?;
         }
-        let extent = self.derived.extent;
-        let texts = requirements_of(self.alloc, self.problem, beside, needed, extent)?;
+        let asking = self.derived.asking();
+        let texts = asking.requirements_of(beside, &needed)?;
         if texts.len() == 1 {
-            if let Some(wanted) = requirement_on(self.problem, beside, needed) {
+            if let Some(wanted) = asking.requirement_on(beside, &needed) {
                 let unadmitted = Unadmitted {
                     problem: self.problem,
                     requirement: wanted,
                     places,
-                    extent,
+                    extent: asking.extent,
                 };
                 return unadmitted.add_reasons(self.alloc, text, of.as_str());
             }
@@ -222,8 +231,8 @@ impl Sentences<'_> {
         if is_needing || asked.places.meets(places) {
             return self.add_unadmitted(text, releases, of.as_str());
         }
-        let verbs = ("none matches", " doesn't match", " don't match");
-        add_negated(self.alloc, text, releases, verbs)?;
+        let denial = Denial::new("none matches", " doesn't match", " don't match");
+        releases.add_denied(self.alloc, text, denial)?;
         write!(text, " what {of} needs")?;
         match &asked.words {
             Words::Range(range) => {
@@ -241,8 +250,8 @@ impl Sentences<'_> {
         releases: ReleaseSet<'_>,
         of: &str,
     ) -> Result<(), AllocError> {
-        let verbs = ("none is admitted", " isn't admitted", " aren't admitted");
-        add_negated(self.alloc, text, releases, verbs)?;
+        let denial = Denial::new("none is admitted", " isn't admitted", " aren't admitted");
+        releases.add_denied(self.alloc, text, denial)?;
         if of.is_empty() {
             return Ok(());
         }
@@ -267,18 +276,4 @@ fn is_needing(conflict: &[PlacedTerm], need: Option<SetNeed>, node: &Node) -> bo
         },
         _ => false,
     }
-}
-
-/// Releases with a verb that denies something of them: of all releases, where there are several, of one or of more.
-fn add_negated(
-    alloc: Global,
-    text: &mut String,
-    releases: ReleaseSet<'_>,
-    verbs: (&str, &str, &str),
-) -> Result<(), AllocError> {
-    if releases.are_every(alloc)? {
-        return text.push_str(verbs.0);
-    }
-    releases.add_runs(alloc, text)?;
-    releases.add_verb(alloc, text, (verbs.1, verbs.2))
 }

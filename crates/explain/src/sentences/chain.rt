@@ -2,12 +2,12 @@
 
 use crate::account::{Account, Derived};
 use crate::exclusion::Exclusion;
-use crate::line_breaks::add_wrapped;
-use crate::placed_term::PlacedTerm;
 use crate::sentences::steps::Step;
 use crate::sentences::{Sentences, add_node};
 use crate::wording::Extent;
+use phrases::add_wrapped;
 use set_refutations::SetNeed;
+use set_refutations::placed::PlacedTerm;
 use std::alloc::AllocError;
 use std::collections::BTreeMap;
 
@@ -78,7 +78,7 @@ fn is_link(derived: Derived<'_>, steps: &[Step], place: usize) -> Result<bool, A
             Ok(
                 are_beside_alike(derived, step, before, at)
                     && !is_held(derived, step)
-                    && are_by(derived, exclusions.as_slice(), (step, before), at)?,
+                    && are_by(derived, exclusions.as_slice(), step, before, at)?,
             )
         }
         _ => Ok(false),
@@ -90,10 +90,10 @@ fn is_link(derived: Derived<'_>, steps: &[Step], place: usize) -> Result<bool, A
 fn are_by(
     derived: Derived<'_>,
     exclusions: &[Exclusion],
-    steps: (&Step, &Step),
+    step: &Step,
+    before: &Step,
     at: usize,
 ) -> Result<bool, AllocError> {
-    let (step, before) = steps;
     let mut is_by = false;
     for exclusion in exclusions {
         if exclusion.conflict == before.conflict {
@@ -119,7 +119,7 @@ fn is_unadmitted(
         return Ok(false);
     };
     match conflict.get(at) {
-        Some(term) => derived.each_refuses(term, &exhausted.node.name, &exclusion.places),
+        Some(term) => derived.each_refuses(term, &exhausted.sought.node.name, &exclusion.places),
         None => Ok(false),
     }
 }
@@ -140,7 +140,7 @@ fn are_beside_alike(derived: Derived<'_>, step: &Step, before: &Step, at: usize)
 
 fn is_held(derived: Derived<'_>, step: &Step) -> bool {
     match derived.exhausted(step.conflict) {
-        Some(exhausted) => derived.problem.is_held(&exhausted.node.name),
+        Some(exhausted) => derived.problem.is_held(&exhausted.sought.node.name),
         None => false,
     }
 }
@@ -180,11 +180,11 @@ impl Sentences<'_> {
         if let Some(step) = self.steps.get(first) {
             if let Some(conflict) = self.derived.conflicts.get(step.conflict) {
                 let need = self.derived.need_of(step.conflict);
-                self.add_beside(&mut sentence, conflict.as_slice(), need, (" ", ""))?;
+                self.add_beside(&mut sentence, conflict.as_slice(), need, " ", "")?;
             }
         }
         sentence.push_str(".")?;
-        add_wrapped(text, sentence.as_str(), "   ")
+        add_wrapped(text, sentence.as_str(), "   ", self.width)
     }
 
     /// The node of a link.

@@ -1,8 +1,8 @@
 // Which lines have no solution.
 
-use crate::line_breaks::add_wrapped;
 use crate::release_set::add_listed;
 use crate::sentences::Sentences;
+use phrases::add_wrapped;
 use std::alloc::AllocError;
 
 /// How many lines of the file are named with what they require, in short.
@@ -37,6 +37,6 @@ impl Sentences<'_> {
         let mut sentence = format!(in self.alloc; "No choice of versions {kept}meets ")?;
         add_listed(&mut sentence, items.as_slice(), "and")?;
         sentence.push_str(".")?;
-        add_wrapped(text, sentence.as_str(), "")
+        add_wrapped(text, sentence.as_str(), "", self.width)
     }
 }

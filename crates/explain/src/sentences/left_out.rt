@@ -1,8 +1,6 @@
 // The releases that were left out of the index, and might have mattered.
 
 use crate::account::Account;
-use crate::dependencies::{NeededName, does_need};
-use crate::placed_term::PlacedTerm;
 use crate::sentences::Sentences;
 use crate::sentences::chain::Part;
 use crate::sentences::steps::Step;
@@ -10,6 +8,7 @@ use crate::sides::{Party, party_of};
 use pep440::{Fault, Version};
 use pep508::Name;
 use phrases::skipped_text::add_skipped;
+use set_refutations::placed::PlacedTerm;
 use snapshot::{SkipCause, Skipped};
 use std::alloc::AllocError;
 use std::collections::BTreeSet;
@@ -76,7 +75,7 @@ impl Sentences<'_> {
             }
         }
         if let Some(exhausted) = self.derived.exhausted(step.conflict) {
-            names.insert(exhausted.node.name.clone()?)?;
+            names.insert(exhausted.sought.node.name.clone()?)?;
         }
         Ok(())
     }
@@ -120,9 +119,7 @@ impl Sentences<'_> {
     /// Whether a version matches a line, where that is on its name.
     fn line_matches(&self, place: usize, name: &Name, version: &Version) -> bool {
         match self.line_requirement(place) {
-            Some(wanted) => {
-                wanted.name().normal() != name.normal() || wanted.specifiers().matches(version)
-            }
+            Some(wanted) => wanted.name() != name || wanted.specifiers().matches(version),
             None => true,
         }
     }
@@ -138,7 +135,7 @@ impl Sentences<'_> {
         let Some(exhausted) = self.derived.exhausted(step.conflict) else {
             return false;
         };
-        if exhausted.node.name.normal() != name.normal() {
+        if exhausted.sought.node.name != *name {
             return false;
         }
         match (&step.account, exhausted.need) {
@@ -169,13 +166,11 @@ impl Sentences<'_> {
 
     /// Whether a version matches what one of the releases of a term needs of the name.
     fn term_matches(&self, term: &PlacedTerm, name: &Name, version: &Version) -> bool {
-        let releases = self.problem.releases(&term.node.name);
-        for (place, release) in releases.iter().enumerate() {
-            let needed = NeededName::bare(name);
+        let needing = self.needing(term, name);
+        for (place, release) in needing.releases().iter().enumerate() {
             if term.places.has(place)
                 && release.dependencies().iter().any(|dependency| {
-                    does_need(self.problem, &term.node, dependency, needed)
-                        && dependency.specifiers().matches(version)
+                    needing.is_by(dependency) && dependency.specifiers().matches(version)
                 })
             {
                 return true;

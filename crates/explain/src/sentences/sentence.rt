@@ -1,19 +1,32 @@
 // The sentence of a conflict.
 
 use crate::account::Account;
-use crate::asked::{Asked, REQUIREMENTS, requirements_of};
-use crate::dependencies::NeededName;
+use crate::asked::{Asked, REQUIREMENTS};
+use crate::dependencies::lent_node;
 use crate::derivation::ExhaustedNode;
 use crate::exclusion::Exclusion;
-use crate::placed_term::PlacedTerm;
 use crate::release_set::add_listed;
+use crate::sentences::causes::OwnNeed;
 use crate::sentences::steps::{Step, number_of};
 use crate::sentences::{Sentences, add_node};
+use crate::verb::Verb;
 use pep508::Name;
 use phrases::{add_near_names, has_package};
 use problems::Node;
 use set_refutations::SetNeed;
+use set_refutations::placed::PlacedTerm;
 use std::alloc::AllocError;
+
+/// Why none of the releases that are asked for of a node is left.
+#[derive(Drop)]
+enum NoneLeft<'a> {
+    /// The sentence of this number rules them out.
+    Step(usize),
+    /// They are excluded by their own need alone.
+    OwnNeed(OwnNeed<'a>),
+    /// Each exclusion is a cause.
+    Causes,
+}
 
 impl Sentences<'_> {
     /// Why the conflict of a step follows.
@@ -28,22 +41,23 @@ impl Sentences<'_> {
         match (&step.account, exhausted.need) {
             (Account::Sides(sides), _) => {
                 let bare = Node {
-                    name: exhausted.node.name.clone()?,
+                    name: exhausted.sought.node.name.clone()?,
                     extra: None,
                 };
                 self.add_sides(text, conflict, &bare, sides.as_slice())
             }
             (Account::Missing, Some(need)) => {
-                self.add_missing(text, conflict, &exhausted.node, need)?;
-                self.add_near(text, step.conflict, &exhausted.node.name)
+                self.add_missing(text, conflict, &exhausted.sought.node, need)?;
+                self.add_near(text, step.conflict, &exhausted.sought.node.name)
             }
             (Account::Needed(side, exclusions), Some(_)) => {
-                self.add_asking(text, conflict, side, &exhausted.node)?;
+                self.add_asking(text, conflict, side, &exhausted.sought.node)?;
                 self.add_none_left(
                     text,
                     conflict,
                     exhausted,
-                    (&side.asked, exclusions.as_slice()),
+                    &side.asked,
+                    exclusions.as_slice(),
                 )
             }
             (Account::Joined(exclusions), _) => {
@@ -61,7 +75,7 @@ impl Sentences<'_> {
         exhausted: &ExhaustedNode,
         exclusions: &[Exclusion],
     ) -> Result<(), AllocError> {
-        let node = &exhausted.node;
+        let node = &exhausted.sought.node;
         let own = conflict.iter().position(|term| term.is_on(node));
         let is_alone = conflict.len() < 2;
         if let Some(term) = conflict.iter().find(|term| term.is_on(node)) {
@@ -86,24 +100,24 @@ impl Sentences<'_> {
             add_node(text, &term.node)?;
             return text.push_str(if is_alone { " is left" } else { " goes with " });
         }
-        let verbs = if is_alone {
-            (" isn't left", " aren't left")
+        let verb = if is_alone {
+            Verb::new(" isn't left", " aren't left")
         } else {
-            (" doesn't go with ", " don't go with ")
+            Verb::new(" doesn't go with ", " don't go with ")
         };
-        self.add_subject(text, term, verbs)
+        self.add_subject(text, term, verb)
     }
 
-    /// A term with its verb, which is given in the singular and in the plural.
+    /// A term with its verb.
     pub fn add_subject(
         &self,
         text: &mut String,
         term: &PlacedTerm,
-        verbs: (&str, &str),
+        verb: Verb,
     ) -> Result<(), AllocError> {
         self.add_term(text, term, "every")?;
         let releases = self.set_of(&term.node, &term.places);
-        releases.add_verb(self.alloc, text, verbs)
+        releases.add_verb(self.alloc, text, verb)
     }
 
     /// A node with these releases of its name; where they are all, and several, with a word for all of them.
@@ -143,13 +157,14 @@ impl Sentences<'_> {
         add_listed(text, items.as_slice(), "and")
     }
 
-    /// The terms that don't need the node, behind `with` and with the texts around them.
+    /// The terms that don't need the node, behind `with`, between two texts.
     pub fn add_beside(
         &self,
         text: &mut String,
         conflict: &[PlacedTerm],
         need: Option<SetNeed>,
-        around: (&str, &str),
+        before: &str,
+        behind: &str,
     ) -> Result<(), AllocError> {
         let but = match need {
             Some(SetNeed::Term(at)) => Some(at),
@@ -158,10 +173,10 @@ impl Sentences<'_> {
         if other_count(conflict, need) == 0 {
             return Ok(());
         }
-        text.push_str(around.0)?;
+        text.push_str(before)?;
         text.push_str("with ")?;
         self.add_others(text, conflict, but)?;
-        text.push_str(around.1)
+        text.push_str(behind)
     }
 
     /// That none of the releases of a node that are asked for is left beside the other terms, and why.
@@ -170,23 +185,53 @@ impl Sentences<'_> {
         text: &mut String,
         conflict: &[PlacedTerm],
         exhausted: &ExhaustedNode,
-        told: (&Asked, &[Exclusion]),
+        asked: &Asked,
+        exclusions: &[Exclusion],
     ) -> Result<(), AllocError> {
-        let (asked, exclusions) = told;
-        let node = &exhausted.node;
-        let is_held = self.problem.is_held(&node.name);
-        if let [exclusion] = exclusions {
-            if let (false, Some(number)) = (is_held, number_of(self.steps, exclusion.conflict)) {
+        match self.none_left(conflict, exhausted, exclusions)? {
+            NoneLeft::Step(number) => {
                 write!(text, ", which is ruled out by {number}")?;
-                return self.add_beside(text, conflict, exhausted.need, (" ", ""));
+                self.add_beside(text, conflict, exhausted.need, " ", "")
             }
-            let others = other_count(conflict, exhausted.need);
-            if !is_held && others == 1 && self.add_own_need(text, conflict, exhausted, exclusion)? {
-                return Ok(());
+            NoneLeft::OwnNeed(need) => self.add_own_need(text, &need),
+            NoneLeft::Causes => self.add_no_such(text, conflict, exhausted, asked, exclusions),
+        }
+    }
+
+    /// Why none of them is left. Where the lock keeps one version alone, that is among the causes.
+    fn none_left<'s>(
+        &'s self,
+        conflict: &'s [PlacedTerm],
+        exhausted: &ExhaustedNode,
+        exclusions: &[Exclusion],
+    ) -> Result<NoneLeft<'s>, AllocError> {
+        let is_held = self.problem.is_held(&exhausted.sought.node.name);
+        let (false, [exclusion]) = (is_held, exclusions) else {
+            return Ok(NoneLeft::Causes);
+        };
+        if let Some(number) = number_of(self.steps, exclusion.conflict) {
+            return Ok(NoneLeft::Step(number));
+        }
+        if other_count(conflict, exhausted.need) == 1 {
+            if let Some(need) = self.own_need(conflict, exhausted, exclusion)? {
+                return Ok(NoneLeft::OwnNeed(need));
             }
         }
+        Ok(NoneLeft::Causes)
+    }
+
+    /// That no such release is left, with the causes.
+    fn add_no_such(
+        &self,
+        text: &mut String,
+        conflict: &[PlacedTerm],
+        exhausted: &ExhaustedNode,
+        asked: &Asked,
+        exclusions: &[Exclusion],
+    ) -> Result<(), AllocError> {
+        let node = &exhausted.sought.node;
         text.push_str(", and ")?;
-        self.add_beside(text, conflict, exhausted.need, ("", " "))?;
+        self.add_beside(text, conflict, exhausted.need, "", " ")?;
         if asked.is_any() {
             text.push_str("no release of ")?;
             add_node(text, node)?;
@@ -194,7 +239,7 @@ impl Sentences<'_> {
             text.push_str("no such release")?;
         }
         text.push_str(" is left: ")?;
-        if is_held {
+        if self.problem.is_held(&node.name) {
             self.add_held(text, node)?;
             text.push_str(if exclusions.is_empty() { "" } else { "; " })?;
         }
@@ -261,11 +306,10 @@ impl Sentences<'_> {
         let Some(term) = conflict.get(at) else {
             return Ok(());
         };
-        self.add_subject(text, term, (" needs ", " need "))?;
-        let needed = NeededName::of(node);
-        let extent = self.derived.extent;
-        let texts = requirements_of(self.alloc, self.problem, term, needed, extent)?;
-        if texts.len() > extent.most(REQUIREMENTS) {
+        self.add_subject(text, term, Verb::needs())?;
+        let needed = lent_node(node);
+        let texts = self.derived.asking().requirements_of(term, &needed)?;
+        if texts.len() > self.derived.extent.most(REQUIREMENTS) {
             return add_node(text, node);
         }
         add_listed(text, texts.as_slice(), "or")

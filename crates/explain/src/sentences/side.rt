@@ -1,11 +1,12 @@
 // Who asks for which releases of a name.
 
 use crate::asked::{Asked, Words};
-use crate::placed_term::PlacedTerm;
 use crate::release_set::add_listed;
 use crate::sentences::{Sentences, add_node};
 use crate::sides::{Party, Side};
+use crate::verb::Verb;
 use problems::Node;
+use set_refutations::placed::PlacedTerm;
 use std::alloc::AllocError;
 
 impl Sentences<'_> {
@@ -54,7 +55,7 @@ impl Sentences<'_> {
             }
             Party::Term(at) => {
                 if let Some(term) = conflict.get(at) {
-                    self.add_subject(text, term, (" needs ", " need "))?;
+                    self.add_subject(text, term, Verb::needs())?;
                 }
                 self.add_wanted(text, asked, node)
             }
