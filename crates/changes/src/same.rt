@@ -9,7 +9,7 @@ use lists::Text;
 use markers::{Environment, VARIABLES};
 use pep440::{LocalPart, Pre, Version};
 use pep508::{Line, Name};
-use pylock::{Entry, FileEntry};
+use pylock::{DistributionFile, Entry};
 
 /// What can be compared by all that it holds. The versions `1` and `1.0` are equal in their order, and
 /// don't hold the same.
@@ -100,8 +100,8 @@ impl Same for Version {
     }
 }
 
-impl Same for FileEntry {
-    fn is_same(&self, other: &FileEntry) -> bool {
+impl Same for DistributionFile {
+    fn is_same(&self, other: &DistributionFile) -> bool {
         self.name.is_same(&other.name)
             && self.url.is_same(&other.url)
             && self.size == other.size

@@ -5,7 +5,7 @@ use Rattle.markers.specs.declared.fault.Cause.{Cause}
 use Rattle.pep508.specs.Lines.{AreLines}
 use Rattle.pep508.specs.Requirement.{IsSpecifier, MayStandFor, RequirementParts, requirement_of}
 use Rattle.pep508.specs.Slices.{joined, slices_of, with_version}
-use Rattle.edits.specs.Required.{if_read, is_on, required_by}
+use Rattle.pep508.specs.Required.{if_read, is_on, required_by}
 use Rattle.edits.specs.LinesOnName.{line_with, with_set_on}
 
 -- a line that requires something may stand for itself with other specifiers, and lines may be exchanged so

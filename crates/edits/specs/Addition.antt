@@ -3,7 +3,7 @@ use Rattle.std.specs.Prelude.{ℕ, ◌==◌, List, [], ◌∷◌, ◌++◌, leng
 use Rattle.std.specs.List.{list_any, position_from}
 use Rattle.pep508.specs.Parts.{ended, ending_of}
 use Rattle.pep508.specs.Requirement.{RequirementParts}
-use Rattle.edits.specs.Required.{is_on, required_by}
+use Rattle.pep508.specs.Required.{is_on, required_by}
 
 -- the requirement that a text is which is to be a line: it has no LF
 abbrev pub requirement_in : List ℕ → Option RequirementParts

@@ -7,7 +7,7 @@ use Rattle.pep508.specs.Parts.{ending_of}
 use Rattle.pep508.specs.Requirement.{RequirementParts}
 use Rattle.edits.specs.Addition.{line_number}
 use Rattle.edits.specs.Refused.{refused_name}
-use Rattle.edits.specs.Required.{is_on, required_by}
+use Rattle.pep508.specs.Required.{is_on, required_by}
 use Rattle.states.specs.declared.refusal.Refusal.{Refusal}
 use Rattle.states.specs.declared.refusal.Refusal.TheVariants.{AlreadyPresent, BadText}
 

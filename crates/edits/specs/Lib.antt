@@ -1,4 +1,3 @@
-pub mod Required
 pub mod Addition
 pub mod LinesOnName
 pub mod Refused

@@ -3,7 +3,7 @@ use Rattle.std.specs.Prelude.{ℕ, not, Bool, List, map, filter, count_by, if◌
 use Rattle.std.specs.Result.{is_ok}
 use Rattle.pep508.specs.Requirement.{specifier_of}
 use Rattle.pep508.specs.Slices.{joined, slices_of, with_version}
-use Rattle.edits.specs.Required.{is_on, required_by}
+use Rattle.pep508.specs.Required.{is_on, required_by}
 
 -- how many lines are on a name, active or not
 abbrev pub count_on : List ℕ → List (List ℕ) → ℕ

@@ -3,13 +3,12 @@
 ghost use Rattle.std.specs.Prelude.{◌≡◌, ◌==◌, IfOk, MatchOption, None, false};
 ghost use Rattle.std.specs.List.{list_any};
 ghost use Rattle.pep508.specs.Parts.{IsEnding};
-ghost use Rattle.edits.specs.Required.{required_by};
+ghost use Rattle.pep508.specs.Required.{required_by};
 ghost use Rattle.edits.specs.Addition.{line_number, requirement_in, usual_ending, with_line};
 ghost use Rattle.edits.specs.Refused.{or_refused, refused_addition};
 ghost use Rattle.states.specs.declared.refusal.Refusal.TheVariants.{OutOfMemory};
 ghost use Rattle.lists.specs.Answers.{Answers};
 
-use crate::lines_on_name::is_on;
 use lists::{Seq, Text};
 use pep508::laws::{a_file_reads_as_lines, lines_may_get_one_more};
 use pep508::{Cause, Line, Name, ReqFile};
@@ -45,7 +44,7 @@ pub(crate) fn line_number(lines: &[Line], name: &Name) -> Option<usize>
     ensures { result ≡ line_number name.now lines.now }
 {
     for (place, line) in lines.iter().enumerate() {
-        if is_on(line, name) {
+        if line.is_on(name) {
             return Some(place + 1);
         }
     }

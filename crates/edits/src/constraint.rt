@@ -8,7 +8,7 @@ ghost use Rattle.states.specs.declared.refusal.Refusal.TheVariants.{BadText, Out
 ghost use Rattle.markers.specs.Names.{normal_of};
 ghost use Rattle.pep508.specs.Parts.{trim};
 
-use crate::lines_on_name::{is_on, name_of_one};
+use crate::lines_on_name::name_of_one;
 use lists::{Seq, Text};
 use pep508::laws::{a_file_reads_as_lines, a_line_may_get_specifiers, lines_may_be_exchanged};
 use pep508::{Cause, Line, Name, ReqFile, SpecifierText};
@@ -38,7 +38,7 @@ fn line_with(
 ) -> Result<Line, AllocError>
     ensures { IfOk result (λ after. after ≡ line_with name.now specifiers.now line.now) }
 {
-    if is_on(line, name) {
+    if line.is_on(name) {
         line.with_specifier(alloc, specifiers)
     } else {
         line.clone()

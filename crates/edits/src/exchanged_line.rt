@@ -10,7 +10,7 @@ ghost use Rattle.markers.specs.Names.{normal_of};
 ghost use Rattle.states.specs.declared.refusal.Refusal.TheVariants.{OutOfMemory};
 
 use crate::addition::{line_in, line_number};
-use crate::lines_on_name::{is_on, name_of_one};
+use crate::lines_on_name::name_of_one;
 use lists::Text;
 use pep508::{Line, Name, ReqFile, Requirement};
 use states::Refusal;
@@ -20,7 +20,7 @@ use std::alloc::{AllocError, Global};
 fn put_line(all: &mut Text, line: &Line, name: &Name, text: &str) -> Result<(), AllocError>
     ensures { OnOk result (all.new ≡ all.old ++ exchanged name.now text.now line.now) }
 {
-    if is_on(line, name) {
+    if line.is_on(name) {
         all.push_str(text)?;
         all.push_str(line.ending())?;
         return Ok(());

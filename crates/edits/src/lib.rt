@@ -34,7 +34,7 @@ pub use crate::questions::{problem_keeping, problems_of_init, problems_with};
 pub use crate::request::{Edit, Edited};
 pub use changes::{Change, DigestChange, EntryChange, Splice, TargetChange, difference};
 pub use pep508::{Cause, Environment, Fault, Line, Name, ReqFile, Requirement};
-pub use pylock::{Entry, FileEntry, Lock};
+pub use pylock::{DistributionFile, Entry, Lock};
 pub use resolve::{Learning, Plain, Problem, Resolver};
 pub use snapshot::{Release, Snapshot};
 pub use states::{Pool, Refusal, SavedFile, State, Target, TargetName, Targets, first_unfit};

@@ -2,7 +2,6 @@
 
 ghost use Rattle.lists.specs.Answers.{Answers};
 ghost use Rattle.std.specs.Prelude.{◌≡◌, Ok, Err, if◌then◌else◌};
-ghost use Rattle.edits.specs.Required.{is_on, required_by};
 ghost use Rattle.edits.specs.LinesOnName.{count_on};
 ghost use Rattle.edits.specs.Refused.{or_refused, refused_name};
 ghost use Rattle.states.specs.declared.refusal.Refusal.TheVariants.{BadText, OutOfMemory};
@@ -13,21 +12,11 @@ use pep508::{Cause, Line, Name};
 use states::Refusal;
 use std::alloc::Global;
 
-/// Whether the line is on the name.
-pub(crate) fn is_on(line: &Line, name: &Name) -> bool
-    ensures { result ≡ is_on name.now (required_by line.now) }
-{
-    match line.requirement() {
-        Some(requirement) => name.normal() == requirement.name().normal(),
-        None => false,
-    }
-}
-
 /// How many lines are on the name.
 fn count_on(lines: &[Line], name: &Name) -> usize
     ensures { result ≡ count_on name.now lines.now }
 {
-    lines.iter().filter(|line| is_on(line, name)).count()
+    lines.iter().filter(|line| line.is_on(name)).count()
 }
 
 /// The name that the text is.

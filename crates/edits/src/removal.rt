@@ -7,7 +7,7 @@ ghost use Rattle.edits.specs.Refused.{or_refused, refused_name};
 ghost use Rattle.states.specs.declared.refusal.Refusal.TheVariants.{OutOfMemory};
 ghost use Rattle.markers.specs.Names.{normal_of};
 
-use crate::lines_on_name::{is_on, name_of_one};
+use crate::lines_on_name::name_of_one;
 use lists::{Seq, Text};
 use pep508::laws::{a_file_reads_as_lines, lines_may_be_left_out};
 use pep508::{Line, Name, ReqFile};
@@ -20,7 +20,7 @@ fn lines_without(alloc: Global, lines: &[Line], name: &Name) -> Result<Seq<Line>
 {
     let mut after = Vec::with_capacity(alloc, lines.len())?;
     for line in lines {
-        if !is_on(line, name) {
+        if !line.is_on(name) {
             after.push(line.clone()?)?;
         }
     }

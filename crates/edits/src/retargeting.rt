@@ -132,9 +132,10 @@ fn kept_retargeted(
     ensures { IfOk result (λ kept. kept.entries
         ≡ kept_retargeted pool.now.index targets.now pins.now given.now) }
 {
-    match target_on(targets, &given.0) {
+    let (name, _environment) = given;
+    match target_on(targets, name) {
         Some(target) => target.kept(alloc),
-        None => kept_by_new(alloc, pool, targets, pins, &given.0),
+        None => kept_by_new(alloc, pool, targets, pins, name),
     }
 }
 
@@ -150,11 +151,10 @@ fn named(
         ≡ kept_named pool.now.index targets.now pins.now given.now) }
 {
     let kept = kept_retargeted(alloc, pool, targets, pins, given)?;
-    let name = given.0.clone()?;
-    let environment = given.1.clone()?;
+    let (name, environment) = given;
     Ok(Unlocked {
-        name,
-        environment,
+        name: name.clone()?,
+        environment: environment.clone()?,
         kept,
     })
 }

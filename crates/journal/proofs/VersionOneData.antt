@@ -5,7 +5,7 @@ use Rattle.std.proofs.lemmas.Bool.{and_parts, ltb-true}
 use Rattle.markers.specs.Environment.{Texts, all_variables}
 use Rattle.markers.specs.declared.variable.Variable.{Variable}
 use Rattle.pylock.specs.Packages.{EntryParts, IsPackage}
-use Rattle.pylock.specs.declared.file.FileEntry.{FileEntry}
+use Rattle.distributions.specs.declared.file.DistributionFile.{DistributionFile}
 use Rattle.pylock.proofs.PackageFacts.{fits, sdist_fit, wheels_fit}
 use Rattle.changes.specs.Changes.{ChangeParts, PlacesFit}
 use Rattle.changes.specs.declared.change.parts.DigestChange.{DigestChange}
@@ -25,17 +25,17 @@ strings-plain : (n : ℕ) (texts : List (List ℕ)) → ArePlain (items_of (map 
 strings-plain n [] = tt
 strings-plain n (text ∷ texts) = (tt, strings-plain n texts)
 
-file-plain : (n : ℕ) (f : FileEntry) → fits f ≡ true → IsPlain (file_data f) (suc n)
+file-plain : (n : ℕ) (f : DistributionFile) → fits f ≡ true → IsPlain (file_data f) (suc n)
 unfolding file_data
 file-plain n f h =
     let size : f.size < 2 ^ 63 = ltb-true f.size (2 ^ 63) h in
     ((tt, (tt, (omega (arith, size), (tt, tt)))), refl)
 
-files-plain : (n : ℕ) (fs : List FileEntry) → list_all fits fs ≡ true → ArePlain (items_of (map file_data fs)) (suc n)
+files-plain : (n : ℕ) (fs : List DistributionFile) → list_all fits fs ≡ true → ArePlain (items_of (map file_data fs)) (suc n)
 files-plain n [] h = tt
 files-plain n (f ∷ fs) h = let p = and_parts (fits f) (list_all fits fs) h in (file-plain n f p.0, files-plain n fs p.1)
 
-sdist-plain : (n : ℕ) (o : Option FileEntry) → list_all fits (option_to_list o) ≡ true → IsPlain (nullable file_data o) (suc n)
+sdist-plain : (n : ℕ) (o : Option DistributionFile) → list_all fits (option_to_list o) ≡ true → IsPlain (nullable file_data o) (suc n)
 sdist-plain n None h = tt
 sdist-plain n (Some f) h = file-plain n f (and_parts (fits f) true h).0
 

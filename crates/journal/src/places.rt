@@ -123,7 +123,7 @@ fn way_on<H: History>(
 
 /// The difference between the states at two places of the history. The way back is the inverse of the way
 /// there.
-pub(crate) fn change_between<H: History>(
+pub(crate) fn difference_between<H: History>(
     alloc: Global,
     history: &H,
     from: usize,

@@ -176,7 +176,7 @@ impl Session {
 
     /// What the steps between two places do together, from the first place to the second: what comes and
     /// goes on the way isn't told. The way back is the inverse of the way there.
-    pub fn change_between(
+    pub fn difference_between(
         &self,
         alloc: Global,
         from: usize,
@@ -186,7 +186,7 @@ impl Session {
         requires to { to < length self.now.past.states }
         ensures between { IfOk result (IsBetween self.now.past from to) }
     {
-        places::change_between(alloc, &self.history, from, to)
+        places::difference_between(alloc, &self.history, from, to)
     }
 
     /// Forgets the first states and steps, so many of each. The present state and all that follow it stay, and

@@ -1,6 +1,6 @@
 -- The JSON values of a journal's lines nest a few levels deep.
 use Rattle.std.proofs.Common.{ℕ, ◌≤◌, List, [], ◌∷◌, map, Option, Some, None, arith}
-use Rattle.pylock.specs.declared.file.FileEntry.{FileEntry}
+use Rattle.distributions.specs.declared.file.DistributionFile.{DistributionFile}
 use Rattle.pylock.specs.Packages.{EntryParts}
 use Rattle.changes.specs.Changes.{ChangeParts}
 use Rattle.changes.specs.declared.change.parts.DigestChange.{DigestChange}
@@ -27,7 +27,7 @@ module _ {X : Type 0} (form : X → Data) (n : ℕ) (within : (x : X) → depth 
 text-depth : (text : List ℕ) → depth (string text) ≤ 0
 text-depth text = omega arith
 
-file-depth : (f : FileEntry) → depth (file_data f) ≤ 1
+file-depth : (f : DistributionFile) → depth (file_data f) ≤ 1
 unfolding file_data
 file-depth f = omega arith
 

@@ -1,6 +1,6 @@
 -- The JSON values of a journal's lines have no float.
 use Rattle.std.proofs.Common.{◌≡◌, ℕ, false, List, [], ◌∷◌, map, Option, Some, None, refl}
-use Rattle.pylock.specs.declared.file.FileEntry.{FileEntry}
+use Rattle.distributions.specs.declared.file.DistributionFile.{DistributionFile}
 use Rattle.pylock.specs.Packages.{EntryParts}
 use Rattle.changes.specs.Changes.{ChangeParts}
 use Rattle.changes.specs.declared.change.parts.DigestChange.{DigestChange}
@@ -27,7 +27,7 @@ module _ {X : Type 0} (form : X → Data) (plain : (x : X) → has_float (form x
 string-plain : (text : List ℕ) → has_float (string text) ≡ false
 string-plain text = refl
 
-file-plain : (f : FileEntry) → has_float (file_data f) ≡ false
+file-plain : (f : DistributionFile) → has_float (file_data f) ≡ false
 unfolding file_data
 file-plain f = refl
 

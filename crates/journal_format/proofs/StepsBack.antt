@@ -9,7 +9,7 @@ use Rattle.pep440.specs.Canonical.{canonical}
 use Rattle.pep440.specs.Version.{IsVersion, VersionParts}
 use Rattle.markers.specs.Environment.{IsEnvironment, Texts}
 use Rattle.markers.specs.Names.{is_normal}
-use Rattle.pylock.specs.declared.file.FileEntry.{FileEntry}
+use Rattle.distributions.specs.declared.file.DistributionFile.{DistributionFile}
 use Rattle.pylock.specs.Packages.{EntryParts, IsPackage, is_other}
 use Rattle.pylock.proofs.CanonicalBack.{Back, ReadsVersions, all-back, canonical-back, lower-back, names-back}
 use Rattle.pylock.proofs.PackageFacts.{parts}
@@ -55,15 +55,15 @@ pub target_name-back : (name : List ℕ) → is_target_name name ≡ true → ta
 unfolding target_name_in
 target_name-back name is = rw is refl
 
-file-back : (f : FileEntry) → file_in (file_data f) ≡ Ok f
+file-back : (f : DistributionFile) → file_in (file_data f) ≡ Ok f
 unfolding file_in file_data
 file-back f = refl
 
-file-there : (f : FileEntry) → is_some (as_null (file_data f)) ≡ false
+file-there : (f : DistributionFile) → is_some (as_null (file_data f)) ≡ false
 unfolding file_data
 file-there f = refl
 
-sdist-back : (o : Option FileEntry) → IfSome o (λ f. file_in (file_data f) ≡ Ok f)
+sdist-back : (o : Option DistributionFile) → IfSome o (λ f. file_in (file_data f) ≡ Ok f)
 sdist-back None = tt
 sdist-back (Some f) = file-back f
 

@@ -3,7 +3,7 @@ use Rattle.std.specs.Prelude.{ℕ, List, [], ◌∷◌, codes, Result, Ok}
 use Rattle.pep440.specs.Version.{VersionParts}
 use Rattle.pylock.specs.CanonicalTexts.{canonical_version, lower_digest, normal_name}
 use Rattle.pylock.specs.Flaws.{◌>>=◌, found}
-use Rattle.pylock.specs.declared.file.FileEntry.{FileEntry}
+use Rattle.distributions.specs.declared.file.DistributionFile.{DistributionFile}
 use Rattle.pylock.specs.declared.flaw.Flaw.{Flaw}
 use Rattle.pylock.specs.Packages.{EntryParts, entry_of}
 use Rattle.serde_json.specs.Data.{Data}
@@ -14,7 +14,7 @@ abbrev pub file_keys : List (List ℕ)
 file_keys = codes "name" ∷ codes "sha256" ∷ codes "size" ∷ codes "url" ∷ []
 
 -- a file
-unfoldable pub file_in : Data → Result FileEntry Flaw
+unfoldable pub file_in : Data → Result DistributionFile Flaw
 file_in d = do
   _ ← only_keys file_keys d
   name ← at (codes "name") text_of d

@@ -3,7 +3,7 @@ use Rattle.std.specs.Prelude.{ℕ, List, [], ◌∷◌, ◌++◌, codes, map, Op
 use Rattle.std.specs.List.{flat_map}
 use Rattle.hex.specs.Hex.{encode_lower}
 use Rattle.pep440.specs.Canonical.{canonical}
-use Rattle.pylock.specs.declared.file.FileEntry.{FileEntry}
+use Rattle.distributions.specs.declared.file.DistributionFile.{DistributionFile}
 use Rattle.pylock.specs.Packages.{EntryParts}
 use Rattle.changes.specs.Changes.{ChangeParts}
 use Rattle.changes.specs.declared.change.parts.DigestChange.{DigestChange}
@@ -39,7 +39,7 @@ abbrev pub digest_data : List ℕ → Data
 digest_data bytes = string (encode_lower bytes)
 
 -- a file
-unfoldable pub file_data : FileEntry → Data
+unfoldable pub file_data : DistributionFile → Data
 file_data f = object (
     member (codes "name") (string f.name) (
     member (codes "sha256") (string f.sha256) (

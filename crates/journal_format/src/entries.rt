@@ -7,21 +7,23 @@ ghost use Rattle.serde_json.specs.View.{view};
 
 use crate::forms::{Read, at, only_keys, text_of};
 use lists::{Seq, Text};
-use pylock::{Entry, FileEntry, Flaw, Name, Version, canonical_version, lower_digest, normal_name};
+use pylock::{
+    DistributionFile, Entry, Flaw, Name, Version, canonical_version, lower_digest, normal_name,
+};
 use serde_json::Value;
 use std::alloc::Global;
 
-impl Read for FileEntry {
+impl Read for DistributionFile {
     ghost reading = { file_in };
 
     #[tactic(auto, unfolding(crate::specs::Entries::file_in))]
-    fn from_value(alloc: Global, value: &Value) -> Result<FileEntry, Flaw> {
+    fn from_value(alloc: Global, value: &Value) -> Result<DistributionFile, Flaw> {
         only_keys(&["name", "sha256", "size", "url"], value)?;
         let name: Text = at(alloc, "name", value)?;
         let sha256: Text = at(alloc, "sha256", value)?;
         let size: u64 = at(alloc, "size", value)?;
         let url: Text = at(alloc, "url", value)?;
-        Ok(FileEntry {
+        Ok(DistributionFile {
             name,
             url,
             size,
@@ -74,9 +76,9 @@ fn entry_in(alloc: Global, name: &Name, value: &Value) -> Result<Entry, Flaw>
     )?;
     let dependencies: Seq<Name> = at(alloc, "dependencies", value)?;
     let python: Option<Text> = at(alloc, "requires_python", value)?;
-    let sdist: Option<FileEntry> = at(alloc, "sdist", value)?;
+    let sdist: Option<DistributionFile> = at(alloc, "sdist", value)?;
     let version: Version = at(alloc, "version", value)?;
-    let wheels: Seq<FileEntry> = at(alloc, "wheels", value)?;
+    let wheels: Seq<DistributionFile> = at(alloc, "wheels", value)?;
     let name = name.clone()?;
     match Entry::new(alloc, name, version, python, dependencies, sdist, wheels)? {
         Some(entry) => Ok(entry),

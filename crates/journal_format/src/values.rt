@@ -15,7 +15,7 @@ use changes::{Change, DigestChange, EntryChange, Splice, TargetChange};
 use lists::Text;
 use markers::{Environment, Name, Variable};
 use pep440::{RequiresPython, Version};
-use pylock::{Entry, FileEntry};
+use pylock::{DistributionFile, Entry};
 use serde_json::{Map, Value, put};
 use std::alloc::{AllocError, Global};
 
@@ -79,7 +79,7 @@ impl Written for Name {
     }
 }
 
-impl Written for FileEntry {
+impl Written for DistributionFile {
     ghost form = { file_data };
 
     #[tactic(auto, unfolding(crate::specs::Written::file_data))]

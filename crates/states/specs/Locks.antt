@@ -6,15 +6,14 @@ use Rattle.std.specs.List.{AllZip, Contains}
 use Rattle.std.specs.List.Sorted.{IsStrictlySortedBy}
 use Rattle.std.specs.Option.{option_and_then, option_map_or}
 use Rattle.std.specs.Ordering.{nat_cmp}
+use Rattle.distributions.specs.declared.file.DistributionFile.{DistributionFile}
 use Rattle.markers.specs.Environment.{Texts, marker_text}
 use Rattle.pep440.specs.Version.{VersionParts}
 use Rattle.pep508.specs.Requirement.{RequirementParts}
 use Rattle.pylock.specs.Locks.{LockParts}
 use Rattle.pylock.specs.Packages.{EntryParts}
-use Rattle.pylock.specs.declared.file.FileEntry.{FileEntry}
 use Rattle.search.specs.Solutions.{HasNoSolution, IsBest, Needed}
 use Rattle.snapshot.specs.Release.{Release}
-use Rattle.snapshot.specs.declared.file.ReleaseFile.{ReleaseFile}
 use Rattle.problems.specs.Admission.{release_at}
 use Rattle.problems.specs.Problem.{ProblemParts, requirements}
 use Rattle.problems.specs.Rules.{rules_of, same_version, wants}
@@ -44,17 +43,13 @@ abbrev pub python_text : Option Release → Option (List ℕ)
 python_text None = None
 python_text (Some release) = option_map (λ python. python.text) release.requires_python
 
--- a file as a lock lists it
-abbrev pub listed : ReleaseFile → FileEntry
-listed f = record { name = f.name; url = f.url; size = f.size; sha256 = f.sha256 }
-
 -- the source distribution of a release
-abbrev pub sdist_of : Option Release → Option FileEntry
-sdist_of release = option_map listed (option_and_then (λ r. r.sdist) release)
+abbrev pub sdist_of : Option Release → Option DistributionFile
+sdist_of release = option_and_then (λ r. r.sdist) release
 
 -- the wheels of a release
-abbrev pub wheels_of : Option Release → List FileEntry
-wheels_of release = option_map_or (λ r. map listed r.wheels) release []
+abbrev pub wheels_of : Option Release → List DistributionFile
+wheels_of release = option_map_or (λ r. r.wheels) release []
 
 -- a dependency of a package, on another name, counts at a needed node of the package
 pub record IsDependency (given : ProblemParts) (chosen : List ℕ → Option VersionParts) (own name : List ℕ) : Type 0 where

@@ -6,14 +6,14 @@ ghost use Rattle.problems.specs.Admission.{release_at};
 ghost use Rattle.pylock.specs.Packages.{are_dependencies};
 ghost use Rattle.snapshot.specs.Lawful.{IsRelease};
 ghost use Rattle.states.specs.Tied.Entries.{HasRelease, entry_with};
-ghost use Rattle.states.specs.Locks.{listed, python_text, sdist_of, wheels_of};
+ghost use Rattle.states.specs.Locks.{python_text, sdist_of, wheels_of};
 
-use lists::{Seq, Text};
+use lists::Seq;
 use pep440::{RequiresPython, Version};
 use pep508::Name;
-use pylock::{Entry, FileEntry};
+use pylock::{DistributionFile, Entry};
 use resolve::Problem;
-use snapshot::{Release, ReleaseFile};
+use snapshot::Release;
 use std::alloc::{AllocError, Global};
 
 /// What the release asks of Python.
@@ -26,39 +26,24 @@ fn python_of(release: &Release) -> Result<Option<RequiresPython>, AllocError>
     }
 }
 
-/// The file as a lock lists it.
-fn listed(alloc: Global, file: &ReleaseFile) -> Result<FileEntry, AllocError>
-    ensures { IfOk result (λ entry. entry ≡ listed file.now) }
-{
-    let name = Text::copy_of(alloc, file.name())?;
-    let url = Text::copy_of(alloc, file.url())?;
-    let sha256 = Text::copy_of(alloc, file.sha256())?;
-    Ok(FileEntry {
-        name,
-        url,
-        size: file.size(),
-        sha256,
-    })
-}
-
 /// The source distribution of the release.
-fn sdist_of(alloc: Global, release: &Release) -> Result<Option<FileEntry>, AllocError>
+fn sdist_of(release: &Release) -> Result<Option<DistributionFile>, AllocError>
     ensures { IfOk result (λ sdist. sdist ≡ sdist_of (Some release.now)) }
 {
     match release.sdist() {
-        Some(file) => Ok(Some(listed(alloc, file)?)),
+        Some(file) => Ok(Some(file.clone()?)),
         None => Ok(None),
     }
 }
 
 /// The wheels of the release.
-fn wheels_of(alloc: Global, release: &Release) -> Result<Seq<FileEntry>, AllocError>
+fn wheels_of(alloc: Global, release: &Release) -> Result<Seq<DistributionFile>, AllocError>
     ensures { IfOk result (λ wheels. wheels ≡ wheels_of (Some release.now)) }
 {
     let files = release.wheels();
     let mut wheels = Vec::with_capacity(alloc, files.len())?;
     for file in files {
-        wheels.push(listed(alloc, file)?)?;
+        wheels.push(file.clone()?)?;
     }
     Ok(Seq::from_vec(wheels))
 }
@@ -79,7 +64,7 @@ fn entry_with(
     name.recall_invariant();
     release.recall_invariant();
     let python = python_of(release)?;
-    let sdist = sdist_of(alloc, release)?;
+    let sdist = sdist_of(release)?;
     let wheels = wheels_of(alloc, release)?;
     match Entry::with_python(alloc, name, version, python, dependencies, sdist, wheels)? {
         Some(entry) => Ok(entry),

@@ -36,6 +36,6 @@ pub use crate::target::Target;
 pub use crate::target_name::{LockFileName, TargetName};
 pub use crate::targets::Targets;
 pub use pep508::{Environment, Line, Name, ReqFile};
-pub use pylock::{Entry, FileEntry, Lock};
+pub use pylock::{DistributionFile, Entry, Lock};
 pub use resolve::{Learning, Plain, Resolver};
 pub use snapshot::Snapshot;

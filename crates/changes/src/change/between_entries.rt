@@ -9,7 +9,7 @@ ghost use Rattle.changes.specs.Tied.Between.{AreOf, IsLeast, IsPut, behind, firs
 use crate::change::minimal::is_same_item;
 use crate::change::parts::EntryChange;
 use crate::same::Same;
-use lists::Seq;
+use lists::{Seq, copy_of};
 use pep508::Name;
 use pylock::Entry;
 use states::TargetName;
@@ -48,16 +48,6 @@ fn cut<'a>(entries: &'a [Entry], name: &Name) -> (Option<&'a Entry>, &'a [Entry]
             (None, entries)
         }
         [] => (None, entries),
-    }
-}
-
-/// A copy of the entry, where there is one.
-fn copy_of(entry: Option<&Entry>) -> Result<Option<Entry>, AllocError>
-    ensures { IfOk result (λ copy. copy ≡ option_copied entry.entry) }
-{
-    match entry {
-        Some(entry) => Ok(Some(entry.clone()?)),
-        None => Ok(None),
     }
 }
 

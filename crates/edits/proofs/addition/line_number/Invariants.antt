@@ -1,7 +1,7 @@
 use Rattle.std.proofs.Common.{◌≡◌, ◌+◌, drop}
 use Rattle.std.specs.List.{position_from}
 use Rattle.edits.specs.Addition.{line_number}
-use Rattle.edits.specs.Required.{is_on, required_by}
+use Rattle.pep508.specs.Required.{is_on, required_by}
 use Rattle.edits.proofs.addition.line_number.Given as goal
 
 abbrev pub invariant-loop-place : goal.invariant-loop-place

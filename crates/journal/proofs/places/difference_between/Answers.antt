@@ -1,5 +1,5 @@
 use Rattle.journal.proofs.PlacesFacts.{between-back}
-use Rattle.journal.proofs.places.change_between.Goals as goal
+use Rattle.journal.proofs.places.difference_between.Goals as goal
 
 pub returns-then-to-from : goal.returns-then-to-from
 returns-then-to-from g c = record {
