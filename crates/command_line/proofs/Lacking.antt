@@ -1,11 +1,21 @@
 -- Why a subcommand can't be done, from why a part of it can't.
-use Rattle.std.proofs.Common.{◌≡◌, List, inl, inr, codes, subst, sym}
+use Rattle.std.proofs.Common.{◌≡◌, List, inl, inr, codes, refl, subst, sym}
+use Rattle.std.specs.Prelude.{IsSome}
 use Rattle.clap.specs.Words.{Row, Text}
+use Rattle.command_line.specs.declared.invocation.AskedEdit.{AskedEdit}
+use Rattle.command_line.specs.declared.invocation.AskedEdit.TheVariants.{Replace, Retarget, Typed}
 use Rattle.command_line.specs.declared.misuse.Misuse.TheVariants.{Excluded, Lacks, NoNumber, NoSubcommand, NoValue, Stray, Twice}
 use Rattle.command_line.specs.declared.misuse.ReadFault.{ReadFault}
 use Rattle.command_line.specs.declared.misuse.ReadFault.TheVariants.{Misused, Needed, OutOfMemory}
 use Rattle.command_line.specs.declared.usage.NeededOption.TheVariants.{Environment, Index}
+use Rattle.command_line.specs.Subcommands.{IsAskedEdit}
 use Rattle.command_line.specs.UsageFaults.{HasNoBeginning, HasNoPlace, IsLacking, IsNoQuestion, LacksIndex, LacksInput, NeedsEnvironment, NeedsIndex}
+
+-- each subcommand that makes an edit needs an index
+pub edit_needs_index : (before behind : List Row) (name : Text) (asked : AskedEdit) → IsAskedEdit before behind name asked → NeedsIndex name behind
+edit_needs_index before behind name (Typed edit) is = inr (inr (inr (inr (inr (inr (inr (inr (inr (subst IsSome (sym is) refl)))))))))
+edit_needs_index before behind name (Replace replacement) is = inr (inr (inr (inr (inr (inr (inl is.0))))))
+edit_needs_index before behind name (Retarget targets) is = inr (inr (inr (inr (inr (inr (inr (inl is.0)))))))
 
 pub index_lacks : (before behind : List Row) (name : Text) (fault : ReadFault) → NeedsIndex name behind → LacksIndex before behind fault → IsLacking before behind name fault
 index_lacks before behind name fault needs lacks = subst (IsLacking before behind name) (sym lacks.0) (needs, lacks.1)

@@ -1,4 +1,4 @@
--- The edit that the words of a command line ask for, and the one that a question of `why` is about. All of it is reqlock's own rule.
+-- The edit that is typed behind a subcommand, and the one that a question of `why` is about. All of it is reqlock's own rule.
 use Rattle.std.specs.Prelude.{ℕ, List, [], ◌∷◌, Option, None, Some, codes, unwrap_or, option_map, if◌then◌else◌, slice_get}
 use Rattle.std.specs.Str.{bytes_eq}
 use Rattle.clap.specs.Words.{Row, Text, all_of, first_of}
@@ -10,11 +10,11 @@ abbrev pub upgrade_with : List Text → EditValue
 upgrade_with [] = UpgradeAll
 upgrade_with (name ∷ names) = Upgrade (name ∷ names)
 
--- the subcommands that make an edit
+-- the subcommands behind which an edit is typed
 abbrev pub edit_names : List Text
 edit_names = codes "add" ∷ codes "remove" ∷ codes "constrain" ∷ codes "upgrade" ∷ codes "relock" ∷ []
 
--- the edit of a subcommand with the texts that clap found: none where the subcommand is no edit, or lacks a text
+-- the edit that is typed behind a subcommand, with the texts that clap found: none where none is, or a text is missing
 abbrev pub edit_of : Text → List Row → Option EditValue
 edit_of name rows =
     if bytes_eq name (codes "add") then option_map Add (first_of (codes "text") rows) else
@@ -39,6 +39,6 @@ edit_among None None (Some name) line = Remove name
 edit_among None None None (Some line) = Add line
 edit_among None None None None = Relock
 
--- the edit that a question is about, of what stands behind `why`
+-- the typed edit that a question is about, of what stands behind `why`
 abbrev pub questioned : List Row → EditValue
 questioned rows = edit_among (all_of (codes "upgrade") rows) (all_of (codes "constrain") rows) (first_of (codes "remove") rows) (first_of (codes "text") rows)

@@ -6,6 +6,8 @@ use Rattle.std.specs.Option.{option_map_or}
 use Rattle.std.specs.Str.{bytes_eq}
 use Rattle.std.specs.Str.Parse.{IsNumeral, digits_value, without_leading_plus}
 use Rattle.clap.specs.Words.{Row, Text, first_of}
+use Rattle.command_line.specs.declared.invocation.AskedEdit.{AskedEdit}
+use Rattle.command_line.specs.declared.invocation.AskedEdit.TheVariants.{Typed, Replace, Retarget}
 use Rattle.command_line.specs.declared.invocation.Beginning.{Beginning}
 use Rattle.command_line.specs.declared.invocation.Beginning.TheVariants.{At, Back}
 use Rattle.command_line.specs.declared.invocation.ColorChoice.{ColorChoice}
@@ -17,8 +19,8 @@ use Rattle.command_line.specs.declared.invocation.ExportFormat.{ExportFormat}
 use Rattle.command_line.specs.declared.invocation.ExportFormat.TheVariants.{Dot, Hashes, Pylock}
 use Rattle.command_line.specs.declared.invocation.Format.{Format as FormatValue}
 use Rattle.command_line.specs.declared.invocation.Format.TheVariants.{Lines, Json}
-use Rattle.command_line.specs.declared.invocation.EditInputs.{EditInputs}
-use Rattle.command_line.specs.declared.invocation.Inputs.{Inputs}
+use Rattle.command_line.specs.declared.invocation.EditOptions.{EditOptions}
+use Rattle.command_line.specs.declared.invocation.InitOptions.{InitOptions}
 use Rattle.command_line.specs.declared.invocation.NewLines.{NewLines}
 use Rattle.command_line.specs.declared.invocation.NewLines.TheVariants.{File, Line, Was}
 use Rattle.command_line.specs.declared.invocation.NewTargets.{NewTargets}
@@ -30,7 +32,7 @@ use Rattle.command_line.specs.declared.invocation.Saving.TheVariants.{Save, DryR
 use Rattle.command_line.specs.declared.invocation.Shown.{Shown}
 use Rattle.command_line.specs.declared.invocation.Shown.TheVariants.{Table, Entry, Tree}
 use Rattle.command_line.specs.declared.invocation.Subcommand.{Subcommand}
-use Rattle.command_line.specs.declared.invocation.Subcommand.TheVariants.{Init, Edit, Replace, Retarget, Undo, Redo, Forget, Batch, Try, Show, Log, Diff, Check, Outdated, Export, Skipped, Why}
+use Rattle.command_line.specs.declared.invocation.Subcommand.TheVariants.{Init, Edit, Undo, Redo, Forget, Batch, Try, Show, Log, Diff, Check, Outdated, Export, Skipped, Why}
 use Rattle.command_line.specs.declared.invocation.Verbosity.{Verbosity as VerbosityValue}
 use Rattle.command_line.specs.declared.invocation.Verbosity.TheVariants.{Quiet, Usual, Verbose}
 use Rattle.command_line.specs.declared.invocation.Told.{Told as ToldValue}
@@ -51,10 +53,10 @@ abbrev pub pins_of : List Row → List Text
 pins_of behind = values_in behind (codes "pins")
 
 -- index, environments and pins, each value of `--env` as it stands, and at least one
-abbrev pub HasInputs : List Row → List Row → Inputs → Type 0
-HasInputs before behind inputs =
-    (index_of before behind ≡ Some inputs.index.now) × (inputs.environments ≡ environments_of before behind) × (environments_of before behind ≢ [])
-    × (inputs.pins ≡ pins_of behind)
+abbrev pub HasInitOptions : List Row → List Row → InitOptions → Type 0
+HasInitOptions before behind options =
+    (index_of before behind ≡ Some options.index.now) × (options.environments ≡ environments_of before behind) × (environments_of before behind ≢ [])
+    × (options.pins ≡ pins_of behind)
 
 -- the environments of other targets, each value of `--env` as it stands, and at least one; and pins
 abbrev pub IsNewTargets : List Row → List Row → NewTargets → Type 0
@@ -62,10 +64,10 @@ IsNewTargets before behind targets =
     (targets.environments ≡ environments_of before behind) × (environments_of before behind ≢ []) × (targets.pins ≡ pins_of behind)
 
 -- the index that an edit is made over, whether it keeps what is locked, and whether it is made only if it is needed
-abbrev pub HasEditInputs : List Row → List Row → EditInputs → Type 0
-HasEditInputs before behind inputs =
-    (index_of before behind ≡ Some inputs.index.now) × (inputs.keeps_locked ≡ is_flagged before behind (codes "keep-locked"))
-    × (inputs.only_if_needed ≡ has_flag behind (codes "if-needed"))
+abbrev pub HasEditOptions : List Row → List Row → EditOptions → Type 0
+HasEditOptions before behind options =
+    (index_of before behind ≡ Some options.index.now) × (options.keeps_locked ≡ is_flagged before behind (codes "keep-locked"))
+    × (options.only_if_needed ≡ has_flag behind (codes "if-needed"))
 
 -- the new lines: those of the file NEW, which the argument `new` names; else those that the file in the folder has now, with what it
 -- was; else one line
@@ -154,34 +156,40 @@ IsExport before behind export =
     (export.format ≡ export_format_of behind) × (text_of export.target ≡ first_of (codes "target") behind) × (text_of export.index ≡ index_of before behind)
     × (export.covers ≡ values_in behind (codes "covers"))
 
--- the question of `why`: about `init`, about a release, about other targets, about other lines, or about an edit
+-- the edit that a subcommand of this name makes: one that is typed, other lines, or other targets
+abbrev pub IsAskedEdit : List Row → List Row → Text → AskedEdit → Type 0
+IsAskedEdit before behind name (Typed edit) = edit_of name behind ≡ Some edit
+IsAskedEdit before behind name (Replace replacement) = (name ≡ codes "replace") × IsReplacement (codes "new") behind replacement
+IsAskedEdit before behind name (Retarget targets) = (name ≡ codes "retarget") × IsNewTargets before behind targets
+
+-- a subcommand of this name makes none, or lacks a text
+abbrev pub MakesNoEdit : Text → List Row → Type 0
+MakesNoEdit name behind = (edit_of name behind ≡ None) × (name ≢ codes "replace") × (name ≢ codes "retarget")
+
+-- the edit that a question is about: other targets, other lines, or one that is typed
+abbrev pub IsAskedAbout : List Row → List Row → AskedEdit → Type 0
+IsAskedAbout before behind (Retarget targets) = (has_flag behind (codes "retarget") ≡ true) × IsNewTargets before behind targets
+IsAskedAbout before behind (Replace replacement) =
+    (has_flag behind (codes "retarget") ≡ false) × (is_given behind (codes "replace") ≡ true) × IsReplacement (codes "replace") behind replacement
+IsAskedAbout before behind (Typed edit) = (has_flag behind (codes "retarget") ≡ false) × (is_given behind (codes "replace") ≡ false) × (edit ≡ questioned behind)
+
+-- the question of `why`: about `init`, about a release, or about an edit
 abbrev pub IsQuestion : List Row → List Row → Question → Type 0
-IsQuestion before behind (questions.Init inputs line) = (has_flag behind (codes "init") ≡ true) × HasInputs before behind inputs × (text_of line ≡ first_of (codes "text") behind)
+IsQuestion before behind (questions.Init options line) = (has_flag behind (codes "init") ≡ true) × HasInitOptions before behind options × (text_of line ≡ first_of (codes "text") behind)
 IsQuestion before behind (questions.Release release over) =
     (has_flag behind (codes "init") ≡ false) × (first_of (codes "not") behind ≡ Some release.now) × (index_of before behind ≡ Some over.now)
-IsQuestion before behind (questions.Retarget targets inputs) =
-    (has_flag behind (codes "init") ≡ false) × (first_of (codes "not") behind ≡ None) × (has_flag behind (codes "retarget") ≡ true)
-    × IsNewTargets before behind targets × HasEditInputs before behind inputs
-IsQuestion before behind (questions.Replace replacement inputs) =
-    (has_flag behind (codes "init") ≡ false) × (first_of (codes "not") behind ≡ None) × (has_flag behind (codes "retarget") ≡ false) × (is_given behind (codes "replace") ≡ true)
-    × IsReplacement (codes "replace") behind replacement × HasEditInputs before behind inputs
-IsQuestion before behind (questions.Edit edit inputs) =
-    (has_flag behind (codes "init") ≡ false) × (first_of (codes "not") behind ≡ None) × (has_flag behind (codes "retarget") ≡ false) × (is_given behind (codes "replace") ≡ false)
-    × (edit ≡ questioned behind) × HasEditInputs before behind inputs
+IsQuestion before behind (questions.Edit asked options) =
+    (has_flag behind (codes "init") ≡ false) × (first_of (codes "not") behind ≡ None) × IsAskedAbout before behind asked × HasEditOptions before behind options
 
 -- a subcommand of this name
 abbrev pub IsSubcommand : List Row → List Row → Text → Subcommand → Type 0
-IsSubcommand before behind name (Init inputs saving) = (name ≡ codes "init") × HasInputs before behind inputs × (saving ≡ saving_of before behind)
-IsSubcommand before behind name (Edit edit inputs saving) = (edit_of name behind ≡ Some edit) × HasEditInputs before behind inputs × (saving ≡ saving_of before behind)
-IsSubcommand before behind name (Replace replacement inputs saving) =
-    (name ≡ codes "replace") × IsReplacement (codes "new") behind replacement × HasEditInputs before behind inputs × (saving ≡ saving_of before behind)
-IsSubcommand before behind name (Retarget targets inputs saving) =
-    (name ≡ codes "retarget") × IsNewTargets before behind targets × HasEditInputs before behind inputs × (saving ≡ saving_of before behind)
+IsSubcommand before behind name (Init options saving) = (name ≡ codes "init") × HasInitOptions before behind options × (saving ≡ saving_of before behind)
+IsSubcommand before behind name (Edit asked options saving) = IsAskedEdit before behind name asked × HasEditOptions before behind options × (saving ≡ saving_of before behind)
 IsSubcommand before behind name (Undo saving) = (name ≡ codes "undo") × (saving ≡ saving_of before behind)
 IsSubcommand before behind name (Redo saving) = (name ≡ codes "redo") × (saving ≡ saving_of before behind)
 IsSubcommand before behind name (Forget beginning saving) = (name ≡ codes "forget") × IsBeginning behind beginning × (saving ≡ saving_of before behind)
-IsSubcommand before behind name (Batch inputs all) = (name ≡ codes "batch") × HasEditInputs before behind inputs × (all ≡ has_flag behind (codes "all-or-none"))
-IsSubcommand before behind name (Try inputs) = (name ≡ codes "try") × HasInputs before behind inputs
+IsSubcommand before behind name (Batch options all) = (name ≡ codes "batch") × HasEditOptions before behind options × (all ≡ has_flag behind (codes "all-or-none"))
+IsSubcommand before behind name (Try options) = (name ≡ codes "try") × HasInitOptions before behind options
 IsSubcommand before behind name (Show shown format) = (name ≡ codes "show") × IsShown before behind shown × (format ≡ format_of before behind)
 IsSubcommand before behind name (Log long format) = (name ≡ codes "log") × (long ≡ has_flag behind (codes "long")) × (format ≡ format_of before behind)
 IsSubcommand before behind name (Diff range format) = (name ≡ codes "diff") × IsRange behind range × (format ≡ format_of before behind)

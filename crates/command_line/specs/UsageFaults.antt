@@ -67,7 +67,7 @@ LacksInput before behind (reads.Needed Index) = index_of before behind ≡ None
 LacksInput before behind (reads.Needed Environment) = IsSome (index_of before behind) × (environments_of before behind ≡ [])
 LacksInput before behind reads.OutOfMemory = Unit {0}
 
--- the subcommands that make no edit, in the order of clap's command (`the_subcommands_are_known`)
+-- the subcommands behind which no edit is typed, in the order of clap's command (`the_subcommands_are_known`)
 abbrev pub other_names : List Text
 other_names = codes "init" ∷ codes "replace" ∷ codes "retarget" ∷ codes "undo" ∷ codes "redo" ∷ codes "forget" ∷ codes "batch" ∷ codes "try" ∷ codes "show" ∷ codes "log" ∷ codes "diff" ∷ codes "check" ∷ codes "outdated" ∷ codes "export" ∷ codes "skipped" ∷ codes "why" ∷ []
 

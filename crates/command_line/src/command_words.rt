@@ -65,10 +65,23 @@ fn subcommand<'a>(
 {
     let own = with_arguments(alloc, options(alloc, words.help)?, words.args)?;
     let args = with_arguments(alloc, own, &TELLING)?;
-    Command::new(alloc, words.name)
-        .about(words.help.about)
-        .after_help(words.help.example)
-        .args(args)
+    with_usage(
+        Command::new(alloc, words.name)
+            .about(words.help.about)
+            .after_help(words.help.example),
+        words.help.usage,
+    )
+    .args(args)
+}
+
+/// The command with this usage line, where there is one.
+fn with_usage<'a>(command: Command<'a>, usage: Option<&'a str>) -> Command<'a>
+    ensures app { app_of result ≡ app_of command.entry }
+{
+    match usage {
+        Some(usage) => command.override_usage(usage),
+        None => command,
+    }
 }
 
 /// The program's own name and options.

@@ -1,23 +1,54 @@
 // The edit that words name.
 
-ghost use Rattle.std.specs.Prelude.{◌≡◌, [], option_map, unwrap_or, IfOk};
+ghost use Rattle.std.specs.Prelude.{◌≡◌, [], option_map, unwrap_or, IfErr, IfOk, MatchOption};
 ghost use Rattle.clap.specs.Words.{found_of, rows_of};
 ghost use Rattle.command_line.specs.Questions.{edit_of, upgrade_with};
 ghost use Rattle.command_line.specs.Options.{text_of, texts_of};
+ghost use Rattle.command_line.specs.Subcommands.{IsAskedEdit, MakesNoEdit};
+ghost use Rattle.command_line.specs.UsageFaults.{IsLacking};
 ghost use Rattle.edits.specs.declared.request.Edit.TheVariants.{Add, Constrain, Remove};
 
+use crate::invocation::AskedEdit;
+use crate::misuse::ReadFault;
 use crate::options::{copies, value, values};
+use crate::replacement::read_replacement;
+use crate::subcommand::needed_targets;
 use clap::ArgMatches;
 use edits::Edit;
 use lists::Text;
 use std::alloc::{AllocError, Global};
 
 /// The edit that a subcommand of this name makes, or none where it makes none.
-pub(crate) fn read_edit(
+pub(crate) fn read_asked_edit<'a>(
     alloc: Global,
     name: &str,
-    behind: &ArgMatches<'_>,
-) -> Result<Option<Edit>, AllocError>
+    before: &ArgMatches<'a>,
+    behind: &ArgMatches<'a>,
+) -> Result<Option<AskedEdit<'a>>, ReadFault<'a>>
+    ensures asked { IfOk result (λ asked. MatchOption asked
+        (MakesNoEdit name.now (rows_of (found_of behind.now)))
+        (IsAskedEdit (rows_of (found_of before.now)) (rows_of (found_of behind.now)) name.now)) }
+    ensures fault { IfErr result (IsLacking
+        (rows_of (found_of before.now)) (rows_of (found_of behind.now)) name.now) }
+{
+    match name {
+        "replace" => {
+            let replacement = read_replacement(alloc, behind, "new")?;
+            Ok(Some(AskedEdit::Replace(replacement)))
+        }
+        "retarget" => {
+            let targets = needed_targets(alloc, before, behind)?;
+            Ok(Some(AskedEdit::Retarget(targets)))
+        }
+        _ => match read_edit(alloc, name, behind)? {
+            Some(edit) => Ok(Some(AskedEdit::Typed(edit))),
+            None => Ok(None),
+        },
+    }
+}
+
+/// The edit that is typed behind a subcommand of this name, or none where none is.
+fn read_edit(alloc: Global, name: &str, behind: &ArgMatches<'_>) -> Result<Option<Edit>, AllocError>
     ensures edit { IfOk result
         (λ edit. edit ≡ edit_of name.now (rows_of (found_of behind.now))) }
 {

@@ -36,25 +36,29 @@ pub enum ColorChoice {
 #[derive(Drop)]
 pub enum Subcommand<'a> {
     /// Locks the requirements file, and begins a history.
-    Init(Inputs<'a>, Saving),
+    Init(InitOptions<'a>, Saving),
     /// Makes an edit over an index.
-    Edit(Edit, EditInputs<'a>, Saving),
-    /// Puts other lines in the place of those of the file, over an index.
-    Replace(Replacement<'a>, EditInputs<'a>, Saving),
-    /// Locks the lines for other targets in the place of the present ones, over an index.
-    Retarget(NewTargets, EditInputs<'a>, Saving),
+    Edit(AskedEdit<'a>, EditOptions<'a>, Saving),
     Undo(Saving),
     Redo(Saving),
     /// Has the history begin with a later state.
     Forget(Beginning, Saving),
-    /// Does the commands of standard input over an index, and saves; all of them or none, or each by itself.
-    Batch(EditInputs<'a>, bool),
+    /// Does the commands of standard input over an index, and saves.
+    Batch {
+        options: EditOptions<'a>,
+        /// Whether all of them are done or none, or each by itself.
+        is_all_or_none: bool,
+    },
     /// Does them on the state that `Init` would begin with, and saves nothing.
-    Try(Inputs<'a>),
+    Try(InitOptions<'a>),
     /// Prints the lock, or a part of it.
     Show(Shown<'a>, Format),
-    /// Prints the history; each changed entry on a line of its own, or none.
-    Log(bool, Format),
+    /// Prints the history.
+    Log {
+        /// Whether each changed entry stands on a line of its own, or none is printed.
+        is_long: bool,
+        format: Format,
+    },
     /// Prints what changed between two places of the history.
     Diff(DiffRange, Format),
     /// Tells whether requirements file, locks and journal belong together; with an index, also whether a
@@ -70,9 +74,19 @@ pub enum Subcommand<'a> {
     Why(Question<'a>, Told),
 }
 
+/// An edit of the present state: typed, or with files that have its lines or its targets.
+#[derive(Drop)]
+pub enum AskedEdit<'a> {
+    Typed(Edit),
+    /// Puts other lines in the place of those of the file.
+    Replace(Replacement<'a>),
+    /// Locks the lines for other targets in the place of the present ones.
+    Retarget(NewTargets),
+}
+
 /// The files that a new history begins with, beside the requirements file.
 #[derive(Drop)]
-pub struct Inputs<'a> {
+pub struct InitOptions<'a> {
     pub index: &'a str,
     /// The values of `--env` as they stand, in their order; there is at least one.
     pub environments: Seq<Text>,
@@ -110,7 +124,7 @@ pub enum NewLines<'a> {
 
 /// What an edit is made over.
 #[derive(Clone, Copy, Debug, PartialEq, Eq)]
-pub struct EditInputs<'a> {
+pub struct EditOptions<'a> {
     pub index: &'a str,
     /// Whether each locked version that is still needed has to stay.
     pub keeps_locked: bool,
@@ -202,13 +216,9 @@ pub enum Told {
 #[derive(Drop)]
 pub enum Question<'a> {
     /// Why this edit of the present state has no solution over an index.
-    Edit(Edit, EditInputs<'a>),
-    /// Why these lines in the place of those of the file have none.
-    Replace(Replacement<'a>, EditInputs<'a>),
-    /// Why the lines have none for these targets in the place of the present ones.
-    Retarget(NewTargets, EditInputs<'a>),
+    Edit(AskedEdit<'a>, EditOptions<'a>),
     /// Why a first lock has none, with this line behind those of the file where there is one.
-    Init(Inputs<'a>, Option<&'a str>),
+    Init(InitOptions<'a>, Option<&'a str>),
     /// Why the present lock hasn't the release that this text names, as `NAME==VERSION`, or the
     /// newest one, as `NAME`, of this index.
     Release(&'a str, &'a str),

@@ -30,3 +30,4 @@ mod subcommand_words;
 mod usage;
 
 pub use crate::command_words::command;
+pub use crate::options::takes_dry_run;

@@ -155,7 +155,8 @@ fn takes_keep_locked(subcommand: &str) -> bool
     )
 }
 
-fn takes_dry_run(subcommand: &str) -> bool
+/// Whether a subcommand takes `--dry-run`.
+pub fn takes_dry_run(subcommand: &str) -> bool
     ensures { result ≡ is_among dry_run_takers subcommand.now }
 {
     matches!(

@@ -9,9 +9,9 @@ ghost use Rattle.command_line.specs.Requests.{IsFault, IsReadAs, IsRequest, IsUn
 use crate::command_words::command;
 use crate::exclusion::{excluded, missing};
 pub use crate::invocation::{
-    Beginning, ColorChoice, DiffRange, EditInputs, Export, ExportFormat, Format, Inputs,
-    Invocation, NewLines, NewTargets, Question, Replacement, Saving, Shown, Subcommand, Told,
-    Verbosity,
+    AskedEdit, Beginning, ColorChoice, DiffRange, EditOptions, Export, ExportFormat, Format,
+    InitOptions, Invocation, NewLines, NewTargets, Question, Replacement, Saving, Shown,
+    Subcommand, Told, Verbosity,
 };
 use crate::manner::{color, unknown_color, unknown_format, verbosity};
 use crate::misuse::{Misuse, ReadFault, told};

@@ -4,19 +4,19 @@ ghost use Rattle.std.specs.Prelude.{◌≡◌, ◌≢◌, codes, true, IfErr, If
 ghost use Rattle.std.specs.List.{AllByRecursion};
 ghost use Rattle.clap.specs.Words.{found_of, rows_of};
 ghost use Rattle.command_line.specs.Options.{has_flag, json_takers};
-ghost use Rattle.command_line.specs.Subcommands.{HasEditInputs, HasInputs, IsSubcommand, IsChecked, IsExport, IsNewTargets, IsPlace, IsRange, IsShown, export_format_of, format_named, format_of, index_of, saving_of, told_of};
+ghost use Rattle.command_line.specs.Subcommands.{HasEditOptions, HasInitOptions, IsSubcommand, IsChecked, IsExport, IsNewTargets, IsPlace, IsRange, IsShown, export_format_of, format_named, format_of, index_of, saving_of, told_of};
 ghost use Rattle.command_line.specs.UsageFaults.{HasNoPlace, IsLacking, IsNoNumber, LacksIndex, LacksInput};
 
 use crate::beginning::read_beginning;
-use crate::edit_words::read_edit;
+use crate::edit_words::read_asked_edit;
 use crate::invocation::{
-    DiffRange, EditInputs, Export, ExportFormat, Format, Inputs, NewTargets, Saving, Shown,
+    DiffRange, EditOptions, Export, ExportFormat, Format, InitOptions, NewTargets, Saving, Shown,
     Subcommand, Told,
 };
 use crate::misuse::{Misuse, ReadFault};
 use crate::options::{all_chosen, chosen, has_flag, is_flagged, value};
 use crate::question::read_question;
-use crate::replacement::{read_pins, read_replacement, values_of};
+use crate::replacement::{read_pins, values_of};
 use crate::usage::NeededOption;
 use clap::ArgMatches;
 use std::alloc::{AllocError, Global};
@@ -33,37 +33,27 @@ pub(crate) fn read_subcommand<'a>(
     ensures fault { IfErr result (IsLacking
         (rows_of (found_of before.now)) (rows_of (found_of behind.now)) name.now) }
 {
-    if let Some(edit) = read_edit(alloc, name, behind)? {
-        let inputs = needed_edit_inputs(before, behind)?;
-        return Ok(Subcommand::Edit(edit, inputs, saving(before, behind)));
+    if let Some(asked) = read_asked_edit(alloc, name, before, behind)? {
+        let options = needed_edit_options(before, behind)?;
+        return Ok(Subcommand::Edit(asked, options, saving(before, behind)));
     }
     if let Some(view) = read_view(name, before, behind)? {
         return Ok(view);
     }
     match name {
         "init" => Ok(Subcommand::Init(
-            needed_inputs(alloc, before, behind)?,
+            needed_init_options(alloc, before, behind)?,
             saving(before, behind),
         )),
-        "try" => Ok(Subcommand::Try(needed_inputs(alloc, before, behind)?)),
-        "batch" => Ok(Subcommand::Batch(
-            needed_edit_inputs(before, behind)?,
-            has_flag(behind, "all-or-none"),
-        )),
+        "try" => Ok(Subcommand::Try(needed_init_options(alloc, before, behind)?)),
+        "batch" => Ok(Subcommand::Batch {
+            options: needed_edit_options(before, behind)?,
+            is_all_or_none: has_flag(behind, "all-or-none"),
+        }),
         "skipped" => Ok(Subcommand::Skipped(needed_index(before, behind)?)),
         "why" => {
             let question = read_question(alloc, before, behind)?;
             Ok(Subcommand::Why(question, told(behind)))
-        }
-        "replace" => {
-            let replacement = read_replacement(alloc, behind, "new")?;
-            let inputs = needed_edit_inputs(before, behind)?;
-            Ok(Subcommand::Replace(replacement, inputs, saving(before, behind)))
-        }
-        "retarget" => {
-            let targets = needed_targets(alloc, before, behind)?;
-            let inputs = needed_edit_inputs(before, behind)?;
-            Ok(Subcommand::Retarget(targets, inputs, saving(before, behind)))
         }
         "export" => Ok(Subcommand::Export(export(alloc, before, behind)?)),
         "undo" => Ok(Subcommand::Undo(saving(before, behind))),
@@ -92,7 +82,10 @@ fn read_view<'a>(
     let format = format(before, behind);
     match name {
         "show" => Ok(Some(Subcommand::Show(read_shown(before, behind), format))),
-        "log" => Ok(Some(Subcommand::Log(has_flag(behind, "long"), format))),
+        "log" => Ok(Some(Subcommand::Log {
+            is_long: has_flag(behind, "long"),
+            format,
+        })),
         "diff" => Ok(Some(Subcommand::Diff(read_range(behind)?, format))),
         "check" => Ok(Some(Subcommand::Check(checked_index(before, behind)?, format))),
         "outdated" => Ok(Some(Subcommand::Outdated(needed_index(before, behind)?, format))),
@@ -241,19 +234,19 @@ pub(crate) fn needed_index<'a>(
 }
 
 /// The index that was given, whether what is locked is to be kept, and whether an edit is made only if it is needed.
-pub(crate) fn needed_edit_inputs<'a>(
+pub(crate) fn needed_edit_options<'a>(
     before: &ArgMatches<'a>,
     behind: &ArgMatches<'a>,
-) -> Result<EditInputs<'a>, ReadFault<'a>>
-    ensures inputs { IfOk result
-        (HasEditInputs (rows_of (found_of before.now)) (rows_of (found_of behind.now))) }
+) -> Result<EditOptions<'a>, ReadFault<'a>>
+    ensures options { IfOk result
+        (HasEditOptions (rows_of (found_of before.now)) (rows_of (found_of behind.now))) }
     ensures missing { IfErr result
         (LacksIndex (rows_of (found_of before.now)) (rows_of (found_of behind.now))) }
 {
     let index = needed_index(before, behind)?;
     let keeps_locked = is_flagged(before, behind, "keep-locked");
     let only_if_needed = has_flag(behind, "if-needed");
-    Ok(EditInputs {
+    Ok(EditOptions {
         index,
         keeps_locked,
         only_if_needed,
@@ -261,13 +254,13 @@ pub(crate) fn needed_edit_inputs<'a>(
 }
 
 /// The index, the environments and the pins that were given; the index is missed first.
-pub(crate) fn needed_inputs<'a>(
+pub(crate) fn needed_init_options<'a>(
     alloc: Global,
     before: &ArgMatches<'a>,
     behind: &ArgMatches<'a>,
-) -> Result<Inputs<'a>, ReadFault<'a>>
-    ensures inputs { IfOk result
-        (HasInputs (rows_of (found_of before.now)) (rows_of (found_of behind.now))) }
+) -> Result<InitOptions<'a>, ReadFault<'a>>
+    ensures options { IfOk result
+        (HasInitOptions (rows_of (found_of before.now)) (rows_of (found_of behind.now))) }
     ensures missing { IfErr result
         (LacksInput (rows_of (found_of before.now)) (rows_of (found_of behind.now))) }
 {
@@ -276,7 +269,7 @@ pub(crate) fn needed_inputs<'a>(
     if environments.is_empty() {
         return Err(ReadFault::Needed(NeededOption::Environment));
     }
-    Ok(Inputs {
+    Ok(InitOptions {
         index,
         environments,
         pins: read_pins(alloc, behind)?,
@@ -294,10 +287,10 @@ pub(crate) fn needed_targets<'a>(
     ensures missing { IfErr result
         (LacksInput (rows_of (found_of before.now)) (rows_of (found_of behind.now))) }
 {
-    let Inputs {
+    let InitOptions {
         index: _,
         environments,
         pins,
-    } = needed_inputs(alloc, before, behind)?;
+    } = needed_init_options(alloc, before, behind)?;
     Ok(NewTargets { environments, pins })
 }

@@ -16,7 +16,7 @@ returns c =
     let options : map rule_of c.in_ok-own.own.items ≡ option_rules ++ own = c.in_ok-own.ensures.args ∙ ap (λ (rules : List Rule). rules ++ own) c.in_ok-options.ensures.args in
     let rules : map rule_of args ≡ option_rules ++ (own ++ telling_rules) =
     c.in_ok-args.ensures.args ∙ ap (λ (rules : List Rule). rules ++ telling_rules) options ∙ append_assoc option_rules own telling_rules in
-    let start : app_of c.after_help.result ≡ new_app name = ap app_of_fields c.after_help.ensures ∙ ap app_of_fields c.about.ensures ∙ c.new.ensures.app in
+    let start : app_of c.with_usage.result ≡ new_app name = c.with_usage.ensures.app ∙ ap app_of_fields c.after_help.ensures ∙ ap app_of_fields c.about.ensures ∙ c.new.ensures.app in
     let local = locals args (simple_behind_options _ c.args.words.now.args.now rules) in
     record {
       app = IfOk-weaker c.args-2.result _ _
