@@ -208,7 +208,7 @@ impl<'a> Sought<'a> {
 }
 
 fn has_name(names: &[&Name], name: &Name) -> bool {
-    names.iter().any(|other| other.normal() == name.normal())
+    names.iter().any(|other| *other == name)
 }
 
 /// Whether a dependency counts at a node, and not at that of the same name without an extra.

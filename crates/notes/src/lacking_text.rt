@@ -2,6 +2,7 @@
 
 use crate::lacking::Lack;
 use edits::{Name, Problem, Release, Requirement};
+use phrases::release_runs::{Run, runs_of};
 use std::alloc::{AllocError, Global};
 
 /// How many names, or runs of releases, one sentence tells.
@@ -18,13 +19,6 @@ pub(crate) fn lack_text(
     } else {
         ruled_out(alloc, problem, lack)
     }
-}
-
-/// The positions of releases that stand side by side in an index, newest first.
-#[derive(Clone, Copy)]
-struct Run {
-    newest: usize,
-    oldest: usize,
 }
 
 /// Which releases are ruled out, for whom, and by what the index lacks.
@@ -53,7 +47,7 @@ fn ruled_out(alloc: Global, problem: &Problem<'_>, lack: &Lack<'_>) -> Result<St
 /// Whether an active line on a name asks for an extra.
 fn is_line_with(problem: &Problem<'_>, name: &Name, extra: &str) -> bool {
     for wanted in problem.active.as_slice() {
-        if wanted.name().normal() == name.normal() && has_extra(wanted, extra) {
+        if wanted.name() == name && has_extra(wanted, extra) {
             return true;
         }
     }
@@ -128,21 +122,6 @@ fn add_releases(
         mark = ",";
     }
     Ok(())
-}
-
-/// The runs in which positions follow one another, from the oldest releases on.
-fn runs_of(alloc: Global, positions: &[usize]) -> Result<Vec<Run>, AllocError> {
-    let mut runs: Vec<Run> = Vec::new(alloc);
-    for position in positions.iter().rev() {
-        match runs.last_mut() {
-            Some(run) if run.newest == position.saturating_add(1) => run.newest = *position,
-            _ => runs.push(Run {
-                newest: *position,
-                oldest: *position,
-            })?,
-        }
-    }
-    Ok(runs)
 }
 
 fn add_run(text: &mut String, releases: &[Release], run: Run) -> Result<(), AllocError> {

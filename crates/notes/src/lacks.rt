@@ -5,6 +5,7 @@ use crate::lacking_text::lack_text;
 use crate::lost_extras::lost_extra;
 use crate::next_steps::{IndexMaker, IndexPlan, add_words};
 use edits::{Change, Problem, Snapshot, State, TargetName};
+use phrases::Notes;
 use problems::Node;
 use std::alloc::{AllocError, Global};
 
@@ -129,43 +130,45 @@ impl Lacks {
     }
 
     /// The notes, a line for each, and the call that makes the index with what it lacks.
-    pub fn text(&self, alloc: Global, plan: IndexPlan<'_>) -> Result<String, AllocError> {
-        let mut text = String::new(alloc);
+    pub fn told(&self, alloc: Global, plan: IndexPlan<'_>) -> Result<Notes, AllocError> {
+        let mut told = Notes::new(alloc);
         for note in self.notes.as_slice().iter().take(MOST) {
             if !note.targets.is_empty() {
-                text.push_str(note.targets.as_str())?;
-                text.push_str(": ")?;
+                told.push_str(note.targets.as_str())?;
+                told.push_str(": ")?;
             }
-            text.push_str(note.text.as_str())?;
-            text.push_str("\n")?;
+            told.push_str(note.text.as_str())?;
+            told.push_str("\n")?;
         }
         let more = self.notes.len().saturating_sub(MOST);
         if more > 0 {
-            write!(text, "and {more} more of such packages\n")?;
+            write!(told, "and {more} more of such packages\n")?;
         }
-        self.add_call(&mut text, plan)?;
-        Ok(text)
+        self.add_call(&mut told, plan)?;
+        Ok(told)
     }
 
     /// The call that makes the index with what it lacks.
-    fn add_call(&self, text: &mut String, plan: IndexPlan<'_>) -> Result<(), AllocError> {
+    fn add_call(&self, notes: &mut Notes, plan: IndexPlan<'_>) -> Result<(), AllocError> {
         let them = match self.packages.len() {
             0 => return Ok(()),
             1 => "it",
             _ => "them",
         };
-        write!(text, "Where the package index has {them}, ")?;
+        write!(notes, "Where the package index has {them}, ")?;
         match plan.maker {
             IndexMaker::First | IndexMaker::Again => {
-                write!(text, "this makes the snapshot with {them}:\n")?;
-                plan.add_remaking(text, self.packages.as_slice())
+                write!(notes, "this makes the snapshot with {them}:\n")?;
+                plan.add_remaking(notes, self.packages.as_slice())
             }
             IndexMaker::Project if self.is_locked => {
-                write!(text, "this takes {them} in:\n    rql upgrade")?;
-                add_words(text, self.names.as_slice())?;
-                text.push_str("\n")
+                write!(notes, "this takes {them} in:\n")?;
+                notes.begin_command()?;
+                notes.push_str("rql upgrade")?;
+                add_words(&mut notes.text, self.names.as_slice())?;
+                notes.push_str("\n")
             }
-            IndexMaker::Project => write!(text, "the same edit by rql takes {them} in.\n"),
+            IndexMaker::Project => write!(notes, "the same edit by rql takes {them} in.\n"),
         }
     }
 

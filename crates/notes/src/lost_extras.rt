@@ -37,7 +37,7 @@ fn downgrade_of<'a>(
     name: &Name,
 ) -> Option<(&'a Version, &'a Version)> {
     let found = change.entries().iter().find(|entry| {
-        entry.target.as_str() == target && entry.name.normal() == name.normal()
+        entry.target.as_str() == target && entry.name == *name
     })?;
     let (Some(old), Some(new)) = (&found.old, &found.new) else {
         return None;

@@ -3,6 +3,7 @@
 use crate::release_notes::is_yanked;
 use edits::{Cause, Change, Edit, EntryChange, Line, Name, Snapshot, State, Target};
 use lists::Text;
+use phrases::Style;
 use std::alloc::{AllocError, Global};
 
 /// An edit over an index, and what it changed.
@@ -28,12 +29,13 @@ pub fn has_moved(alloc: Global, applied: AppliedEdit<'_>) -> Result<bool, AllocE
 pub fn add_moved(
     alloc: Global,
     text: &mut String,
+    style: Style,
     applied: AppliedEdit<'_>,
     kept: Option<&State>,
 ) -> Result<(), AllocError> {
     for entry in applied.change.entries() {
         if is_moved(alloc, applied.edit, entry)? {
-            add_move(text, entry)?;
+            add_move(text, style, entry)?;
             text.push_str(" (")?;
             add_yanked(text, applied.snapshot, entry)?;
             match kept {
@@ -61,7 +63,7 @@ fn is_moved(alloc: Global, edit: &Edit, entry: &EntryChange) -> Result<bool, All
 fn is_named(alloc: Global, edit: &Edit, name: &Name) -> Result<bool, AllocError> {
     match edit {
         Edit::Add(line) => match Line::read(alloc, line.as_str()) {
-            Ok(line) => Ok(is_on(&line, name)),
+            Ok(line) => Ok(line.is_on(name)),
             Err(Cause::OutOfMemory) => Err(AllocError),
             Err(_) => Ok(false),
         },
@@ -79,22 +81,15 @@ fn is_named(alloc: Global, edit: &Edit, name: &Name) -> Result<bool, AllocError>
     }
 }
 
-fn is_on(line: &Line, name: &Name) -> bool {
-    match line.requirement() {
-        Some(requirement) => requirement.name().normal() == name.normal(),
-        None => false,
-    }
-}
-
 fn is_name(alloc: Global, text: &Text, name: &Name) -> Result<bool, AllocError> {
     match Name::read(alloc, text.as_str()) {
-        Ok(read) => Ok(read.normal() == name.normal()),
+        Ok(read) => Ok(read == *name),
         Err(Cause::OutOfMemory) => Err(AllocError),
         Err(_) => Ok(false),
     }
 }
 
-fn add_move(text: &mut String, entry: &EntryChange) -> Result<(), AllocError> {
+fn add_move(text: &mut String, style: Style, entry: &EntryChange) -> Result<(), AllocError> {
     text.push_str("moved: ")?;
     let target = entry.target.as_str();
     if !target.is_empty() {
@@ -102,8 +97,7 @@ fn add_move(text: &mut String, entry: &EntryChange) -> Result<(), AllocError> {
     }
     let name = entry.name.normal();
     if let (Some(old), Some(new)) = (&entry.old, &entry.new) {
-        let (old, new) = (old.version(), new.version());
-        write!(text, "{name} {old} -> {new}")?;
+        style.add_versions(text, name, old.version(), new.version())?;
     }
     Ok(())
 }

@@ -1,8 +1,8 @@
-// What to type next where a file is missing or is another one: sentences, and commands in lines that begin with spaces.
+// What to type next where a file is missing or is another one: sentences, and commands.
 
 use crate::file_form::FileForm;
 use crate::near_variable::mistyped_key;
-use phrases::{add_plain, add_word};
+use phrases::{Notes, add_plain, add_word};
 use std::alloc::{AllocError, Global};
 
 /// The name that this repository's pages give an index.
@@ -36,45 +36,47 @@ pub struct IndexPlan<'a> {
 
 impl IndexPlan<'_> {
     /// Puts the command that makes the index behind the text.
-    pub fn add_command(self, text: &mut String) -> Result<(), AllocError> {
+    pub fn add_command(self, notes: &mut Notes) -> Result<(), AllocError> {
         let none: &[String] = &[];
-        self.add_first(text, none)
+        self.add_first(notes, none)
     }
 
     /// Puts the command behind the text that makes the index with these packages too.
-    pub fn add_remaking(self, text: &mut String, packages: &[String]) -> Result<(), AllocError> {
+    pub fn add_remaking(self, notes: &mut Notes, packages: &[String]) -> Result<(), AllocError> {
         if self.maker != IndexMaker::Again {
-            return self.add_first(text, packages);
+            return self.add_first(notes, packages);
         }
-        text.push_str("    reqlock-snapshot again")?;
-        add_words(text, packages)?;
-        self.add_output(text)
+        notes.begin_command()?;
+        notes.push_str("reqlock-snapshot again")?;
+        add_words(&mut notes.text, packages)?;
+        self.add_output(notes)
     }
 
-    fn add_first(self, text: &mut String, packages: &[String]) -> Result<(), AllocError> {
-        text.push_str("    reqlock-snapshot simple")?;
-        add_word(text, address_of(self.index))?;
-        add_words(text, packages)?;
-        text.push_str(" --for")?;
-        add_word(text, self.requirements)?;
-        text.push_str(self.environments)?;
-        self.add_output(text)
+    fn add_first(self, notes: &mut Notes, packages: &[String]) -> Result<(), AllocError> {
+        notes.begin_command()?;
+        notes.push_str("reqlock-snapshot simple")?;
+        add_word(&mut notes.text, address_of(self.index))?;
+        add_words(&mut notes.text, packages)?;
+        notes.push_str(" --for")?;
+        add_word(&mut notes.text, self.requirements)?;
+        notes.push_str(self.environments)?;
+        self.add_output(notes)
     }
 
-    fn add_output(self, text: &mut String) -> Result<(), AllocError> {
-        text.push_str(" --output")?;
-        add_word(text, output_of(self.index))?;
-        text.push_str("\n")
+    fn add_output(self, notes: &mut Notes) -> Result<(), AllocError> {
+        notes.push_str(" --output")?;
+        add_word(&mut notes.text, output_of(self.index))?;
+        notes.push_str("\n")
     }
 
     /// Where a file was given that is no index: the one that is there, or how one is made, not in the place of that file.
-    fn add_other(self, text: &mut String) -> Result<(), AllocError> {
+    fn add_other(self, notes: &mut Notes) -> Result<(), AllocError> {
         if self.is_there && self.index != INDEX {
-            return text.push_str("index.json is here: give that.\n");
+            return notes.push_str("index.json is here: give that.\n");
         }
-        text.push_str("This makes one:\n")?;
+        notes.push_str("This makes one:\n")?;
         let index = INDEX;
-        IndexPlan { index, ..self }.add_command(text)
+        IndexPlan { index, ..self }.add_command(notes)
     }
 }
 
@@ -111,33 +113,34 @@ pub fn is_address(index: &str) -> bool {
 /// Puts the command that makes an environment behind the text.
 pub fn add_environment_command(
     alloc: Global,
-    text: &mut String,
+    notes: &mut Notes,
     path: &str,
 ) -> Result<(), AllocError> {
-    text.push_str("    reqlock-environment >")?;
+    notes.begin_command()?;
+    notes.push_str("reqlock-environment >")?;
     let mut word = String::new(alloc);
     add_word(&mut word, path)?;
-    text.push_str(word.as_str().trim_start())?;
-    text.push_str("\n")
+    notes.push_str(word.as_str().trim_start())?;
+    notes.push_str("\n")
 }
 
 /// Puts what the file looks like behind the text that was given as an index, and what to do.
 pub fn add_index_note(
-    text: &mut String,
+    notes: &mut Notes,
     plan: IndexPlan<'_>,
     form: FileForm,
 ) -> Result<(), AllocError> {
-    add_plain(text, plan.index)?;
+    add_plain(&mut notes.text, plan.index)?;
     if let FileForm::Conflict(line) = form {
         return write!(
-            text,
+            notes,
             ": git left a conflict at line {line}: make the snapshot again, or take one side's\n"
         );
     }
-    text.push_str(index_look(form))?;
+    notes.push_str(index_look(form))?;
     match form {
-        FileForm::Empty | FileForm::Marked | FileForm::Snapshot => plan.add_command(text),
-        _ => plan.add_other(text),
+        FileForm::Empty | FileForm::Marked | FileForm::Snapshot => plan.add_command(notes),
+        _ => plan.add_other(notes),
     }
 }
 
@@ -177,51 +180,51 @@ pub struct BadEnvironment<'a> {
 /// Puts what the file looks like behind the text that was given as an environment, and what to do.
 pub fn add_environment_note(
     alloc: Global,
-    text: &mut String,
+    notes: &mut Notes,
     file: BadEnvironment<'_>,
 ) -> Result<(), AllocError> {
-    add_plain(text, file.path)?;
+    add_plain(&mut notes.text, file.path)?;
     match file.form {
         FileForm::Conflict(line) => {
             write!(
-                text,
+                notes,
                 ": git left a conflict at line {line}. This makes it again:\n"
             )?;
         }
         FileForm::Snapshot => {
-            text.push_str(" looks like a snapshot of an index: --index takes it. ")?;
-            return add_other_environment(alloc, text, file);
+            notes.push_str(" looks like a snapshot of an index: --index takes it. ")?;
+            return add_other_environment(alloc, notes, file);
         }
         FileForm::Lock => {
-            text.push_str(" looks like a lock. ")?;
-            return add_other_environment(alloc, text, file);
+            notes.push_str(" looks like a lock. ")?;
+            return add_other_environment(alloc, notes, file);
         }
-        FileForm::Marked => text.push_str(
+        FileForm::Marked => notes.push_str(
             " begins with a byte-order mark: save it as UTF-8 without one, or make it again:\n",
         )?,
-        FileForm::Empty => text.push_str(" is empty. This makes it again:\n")?,
+        FileForm::Empty => notes.push_str(" is empty. This makes it again:\n")?,
         FileForm::Environment if !file.variable.is_empty() => {
-            add_variable_note(alloc, text, file.text, file.variable)?;
+            add_variable_note(alloc, &mut notes.text, file.text, file.variable)?;
         }
         _ => {
-            text.push_str(" is no environment. ")?;
-            return add_other_environment(alloc, text, file);
+            notes.push_str(" is no environment. ")?;
+            return add_other_environment(alloc, notes, file);
         }
     }
-    add_environment_command(alloc, text, file.path)
+    add_environment_command(alloc, notes, file.path)
 }
 
 /// Where a file was given that is no environment: the one that is there, or how one is made, not in the place of that file.
 fn add_other_environment(
     alloc: Global,
-    text: &mut String,
+    notes: &mut Notes,
     file: BadEnvironment<'_>,
 ) -> Result<(), AllocError> {
     if file.is_there && file.path != ENVIRONMENT {
-        return text.push_str("environment.json is here: give that.\n");
+        return notes.push_str("environment.json is here: give that.\n");
     }
-    text.push_str("This makes one, of the Python that runs it:\n")?;
-    add_environment_command(alloc, text, ENVIRONMENT)
+    notes.push_str("This makes one, of the Python that runs it:\n")?;
+    add_environment_command(alloc, notes, ENVIRONMENT)
 }
 
 fn add_variable_note(

@@ -93,18 +93,11 @@ fn add_lines_on(
         Err(_) => return Ok(()),
     };
     for (position, line) in lines.iter().enumerate() {
-        if is_on(line, &name) {
+        if line.is_on(&name) {
             add_line(text, position.saturating_add(1), line)?;
         }
     }
     Ok(())
-}
-
-fn is_on(line: &Line, name: &Name) -> bool {
-    match line.requirement() {
-        Some(requirement) => requirement.name().normal() == name.normal(),
-        None => false,
-    }
 }
 
 /// Which text of an edit doesn't read, where, and why.

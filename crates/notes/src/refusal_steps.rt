@@ -3,28 +3,30 @@
 use crate::bad_text_steps::add_bad_text_steps;
 use crate::refusal_details::{RefusedEdit, environments_after};
 use edits::{Cause, Edit, Environment, Line, Name, Refusal, Requirement, Snapshot};
-use phrases::{add_specifiers, add_word};
+use phrases::{Notes, add_specifiers, add_word};
 use std::alloc::{AllocError, Global};
 
 /// Puts what to do next behind the text. The options are those of the call, each with a space before it.
 pub fn add_refusal_steps(
     alloc: Global,
-    text: &mut String,
+    notes: &mut Notes,
     options: &str,
     refused: RefusedEdit<'_>,
 ) -> Result<(), AllocError> {
     match (refused.refusal, refused.edit) {
-        (Refusal::BadText, edit) => add_bad_text_steps(alloc, text, options, edit),
+        (Refusal::BadText, edit) => add_bad_text_steps(alloc, notes, options, edit),
         (Refusal::AlreadyPresent(_), Edit::Add(line)) => {
-            add_constraint(alloc, text, options, line.as_str())
+            add_constraint(alloc, notes, options, line.as_str())
         }
         (Refusal::NotPresent, Edit::Remove(_) | Edit::Constrain(_, _)) => {
-            add_need(alloc, text, options, refused)
+            add_need(alloc, notes, options, refused)
         }
         (Refusal::NotLocked(_), _) => {
-            text.push_str("What is locked is told by:\n    reqlock show\n")
+            notes.push_str("What is locked is told by:\n")?;
+            notes.begin_command()?;
+            notes.push_str("reqlock show\n")
         }
-        (Refusal::NoSolution, _) => add_lines_steps(alloc, text, refused),
+        (Refusal::NoSolution, _) => add_lines_steps(alloc, &mut notes.text, refused),
         (Refusal::AlreadyPresent(_) | Refusal::NotPresent, _) => Ok(()),
         // of these there is nothing to type
         (
@@ -101,7 +103,7 @@ fn add_newest(
 /// How the line that is there already comes to what is asked for. Extras are no part of what `constrain` changes.
 fn add_constraint(
     alloc: Global,
-    text: &mut String,
+    notes: &mut Notes,
     options: &str,
     line: &str,
 ) -> Result<(), AllocError> {
@@ -113,27 +115,24 @@ fn add_constraint(
     };
     let name = requirement.name().normal();
     if !requirement.extras().is_empty() {
-        write!(
-            text,
-            "This puts the line in the place of that one:\n    reqlock{options} replace --line {name}"
-        )?;
-        add_word(text, line)?;
-        return text.push_str("\n");
+        notes.push_str("This puts the line in the place of that one:\n")?;
+        notes.begin_command()?;
+        write!(notes, "reqlock{options} replace --line {name}")?;
+        add_word(&mut notes.text, line)?;
+        return notes.push_str("\n");
     }
     if requirement.specifiers().clauses().is_empty() {
-        return write!(
-            text,
-            "This takes newer releases of it:\n    reqlock{options} upgrade {name}\n"
-        );
+        notes.push_str("This takes newer releases of it:\n")?;
+        notes.begin_command()?;
+        return write!(notes, "reqlock{options} upgrade {name}\n");
     }
-    write!(
-        text,
-        "This puts these versions on that line:\n    reqlock{options} constrain {name}"
-    )?;
+    notes.push_str("This puts these versions on that line:\n")?;
+    notes.begin_command()?;
+    write!(notes, "reqlock{options} constrain {name}")?;
     let mut specifiers = String::new(alloc);
     add_specifiers(&mut specifiers, requirement)?;
-    add_word(text, specifiers.as_str())?;
-    text.push_str("\n")
+    add_word(&mut notes.text, specifiers.as_str())?;
+    notes.push_str("\n")
 }
 
 pub(crate) fn read_line(alloc: Global, line: &str) -> Result<Option<Line>, AllocError> {
@@ -147,7 +146,7 @@ pub(crate) fn read_line(alloc: Global, line: &str) -> Result<Option<Line>, Alloc
 /// Who needs a name that no line has, and how it gets a line.
 fn add_need(
     alloc: Global,
-    text: &mut String,
+    notes: &mut Notes,
     options: &str,
     refused: RefusedEdit<'_>,
 ) -> Result<(), AllocError> {
@@ -162,20 +161,23 @@ fn add_need(
     let normal = name.normal();
     let mut targets = refused.state.targets().iter();
     if !targets.any(|target| target.locked(&name).is_some()) {
-        return text.push_str("Which names have lines is told by:\n    reqlock show --tree\n");
+        notes.push_str("Which names have lines is told by:\n")?;
+        notes.begin_command()?;
+        return notes.push_str("reqlock show --tree\n");
     }
-    write!(text, "{normal} is locked since other packages need it. ")?;
+    write!(notes, "{normal} is locked since other packages need it. ")?;
     let Edit::Constrain(_, specifiers) = refused.edit else {
-        return write!(text, "Which ones is told by:\n    reqlock show {normal}\n");
+        notes.push_str("Which ones is told by:\n")?;
+        notes.begin_command()?;
+        return write!(notes, "reqlock show {normal}\n");
     };
-    write!(
-        text,
-        "A line of its own bounds it:\n    reqlock{options} add"
-    )?;
+    notes.push_str("A line of its own bounds it:\n")?;
+    notes.begin_command()?;
+    write!(notes, "reqlock{options} add")?;
     let mut line = String::from_str(alloc, normal)?;
     line.push_str(specifiers.as_str())?;
-    add_word(text, line.as_str())?;
-    text.push_str("\n")
+    add_word(&mut notes.text, line.as_str())?;
+    notes.push_str("\n")
 }
 
 /// The line that an edit adds or changes, as it would be.

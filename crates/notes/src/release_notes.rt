@@ -110,9 +110,7 @@ fn release_of<'a>(snapshot: &'a Snapshot, entry: &Entry) -> Option<&'a Release> 
 fn names_pre(lines: &[Line], name: &Name) -> bool {
     for line in lines {
         if let Some(requirement) = line.requirement() {
-            if requirement.name().normal() == name.normal()
-                && requirement.specifiers().names_pre()
-            {
+            if requirement.name() == name && requirement.specifiers().names_pre() {
                 return true;
             }
         }

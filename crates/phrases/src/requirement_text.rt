@@ -1,6 +1,6 @@
 // Requirements of releases as they are told: in normal form, without their markers.
 
-use pep508::{Clause, Name, Operator, Requirement};
+use pep508::{Clause, Name, Requirement};
 use std::alloc::AllocError;
 
 /// The name, the extras in brackets, and the clauses, without a space.
@@ -36,22 +36,7 @@ fn add_extras(text: &mut String, extras: &[Name]) -> Result<(), AllocError> {
 
 /// The operator and the version of a clause, without a space.
 pub fn add_clause(text: &mut String, clause: &Clause) -> Result<(), AllocError> {
-    let (sign, end) = signs_of(clause.operator);
+    let (sign, star) = (clause.operator.sign(), clause.operator.star());
     let version = &clause.version;
-    write!(text, "{sign}{version}{end}")
-}
-
-/// How an operator is written, and what stands behind its version.
-pub fn signs_of(operator: Operator) -> (&'static str, &'static str) {
-    match operator {
-        Operator::Compatible => ("~=", ""),
-        Operator::Equal => ("==", ""),
-        Operator::NotEqual => ("!=", ""),
-        Operator::EqualPrefix => ("==", ".*"),
-        Operator::NotEqualPrefix => ("!=", ".*"),
-        Operator::AtMost => ("<=", ""),
-        Operator::AtLeast => (">=", ""),
-        Operator::Below => ("<", ""),
-        Operator::Above => (">", ""),
-    }
+    write!(text, "{sign}{version}{star}")
 }

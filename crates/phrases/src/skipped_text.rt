@@ -19,7 +19,7 @@ pub fn skipped_text(alloc: Global, skipped: &[Skipped]) -> Result<String, AllocE
 /// The same lines of the releases of one name, each with its version as the index writes it.
 pub fn add_skipped(text: &mut String, skipped: &[Skipped], name: &Name) -> Result<(), AllocError> {
     for release in skipped {
-        if release.package().normal() == name.normal() {
+        if release.package() == name {
             text.push_str(name.normal())?;
             text.push_str(" ")?;
             add_plain(text, release.version())?;

@@ -1,6 +1,6 @@
 // Which fields differ of entries that lock one version.
 
-use edits::{Entry, FileEntry};
+use edits::{DistributionFile, Entry};
 use std::alloc::AllocError;
 
 /// Puts in brackets behind the text which fields differ of two entries, if both lock one version, however it is written.
@@ -47,7 +47,7 @@ fn has_other_files(old: &Entry, new: &Entry) -> bool {
             .any(|(file, other)| is_elsewhere(file, other))
 }
 
-fn is_elsewhere(file: &FileEntry, other: &FileEntry) -> bool {
+fn is_elsewhere(file: &DistributionFile, other: &DistributionFile) -> bool {
     file.name.as_str() != other.name.as_str()
         || file.url.as_str() != other.url.as_str()
         || file.size != other.size
@@ -67,7 +67,7 @@ fn has_other_hashes(old: &Entry, new: &Entry) -> bool {
 }
 
 /// Whether a wheel of the same name has another digest. Wheels stand in the order of their names.
-fn has_other_wheel(file: &FileEntry, wheels: &[FileEntry]) -> bool {
+fn has_other_wheel(file: &DistributionFile, wheels: &[DistributionFile]) -> bool {
     let name = file.name.as_str();
     match wheels.binary_search_by(|other| other.name.as_str().cmp(name)) {
         Ok(position) => match wheels.get(position) {
@@ -78,7 +78,7 @@ fn has_other_wheel(file: &FileEntry, wheels: &[FileEntry]) -> bool {
     }
 }
 
-fn has_other_digest(file: &FileEntry, other: &FileEntry) -> bool {
+fn has_other_digest(file: &DistributionFile, other: &DistributionFile) -> bool {
     file.name.as_str() == other.name.as_str() && file.sha256.as_str() != other.sha256.as_str()
 }
 
@@ -92,9 +92,5 @@ fn asks_other_python(old: &Entry, new: &Entry) -> bool {
 
 fn has_other_needs(old: &Entry, new: &Entry) -> bool {
     let (needs, others) = (old.dependencies(), new.dependencies());
-    needs.len() != others.len()
-        || needs
-            .iter()
-            .zip(others)
-            .any(|(name, other)| name.normal() != other.normal())
+    needs.len() != others.len() || needs.iter().zip(others).any(|(name, other)| name != other)
 }

@@ -1,7 +1,7 @@
 // Entries of a lock as JSON.
 
 use crate::json_text::{text_value, version_value};
-use edits::{Entry, FileEntry, Name};
+use edits::{DistributionFile, Entry, Name};
 use serde_json::{Map, Value, put};
 use std::alloc::{AllocError, Global};
 
@@ -38,7 +38,7 @@ pub(crate) fn names_value(alloc: Global, names: &[Name]) -> Result<Value, AllocE
     Ok(Value::Array(values))
 }
 
-fn files_value(alloc: Global, files: &[FileEntry]) -> Result<Value, AllocError> {
+fn files_value(alloc: Global, files: &[DistributionFile]) -> Result<Value, AllocError> {
     let mut values = Vec::with_capacity(alloc, files.len())?;
     for file in files {
         values.push(file_value(alloc, file)?)?;
@@ -46,7 +46,7 @@ fn files_value(alloc: Global, files: &[FileEntry]) -> Result<Value, AllocError> 
     Ok(Value::Array(values))
 }
 
-fn file_value(alloc: Global, file: &FileEntry) -> Result<Value, AllocError> {
+fn file_value(alloc: Global, file: &DistributionFile) -> Result<Value, AllocError> {
     let mut members = Map::new(alloc);
     let name = text_value(alloc, file.name.as_str())?;
     put(&mut members, alloc, "name", name)?;

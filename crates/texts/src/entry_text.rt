@@ -4,7 +4,7 @@ use crate::lock_text::position_of;
 use crate::required_by::{RequiredBy, Requirer, problem_over, requirers_of};
 use crate::requirer_text::{add_line_text, add_requirer};
 use crate::shown::ShownLocks;
-use edits::{Entry, FileEntry, Name, Snapshot, Target};
+use edits::{DistributionFile, Entry, Name, Snapshot, Target};
 use phrases::{add_plain, add_requirement, add_target_line};
 use std::alloc::{AllocError, Global};
 
@@ -114,7 +114,7 @@ fn add_need(text: &mut String, entries: &[Entry], needed: &Name) -> Result<(), A
     text.push_str("\n")
 }
 
-fn add_file(text: &mut String, file: &FileEntry) -> Result<(), AllocError> {
+fn add_file(text: &mut String, file: &DistributionFile) -> Result<(), AllocError> {
     text.push_str("  file ")?;
     add_plain(text, file.name.as_str())?;
     text.push_str("\n    url ")?;

@@ -7,40 +7,67 @@ use crate::shown::ShownSteps;
 use crate::target_text::{add_entry_count, has_same_target, sign_of_whole, target_lines};
 use edits::{Cause, Change, Line, Splice, TargetName};
 use lists::Text;
-use phrases::{add_plain, add_specifiers};
+use phrases::{Ink, Style, add_plain, add_specifiers};
 use std::alloc::{AllocError, Global};
 
 /// How many characters a line of the history has at most.
 const WIDTH: usize = 100;
 
+/// How many of them mark whether the state is the present one.
+const MARK: usize = 2;
+
 /// A line for the first state, and one for each step behind it that tells what it did, as far as its
 /// change shows that. The present state is marked. A longer line is cut. With `long`, a line for each
-/// entry that came, went or changed stands under the step's.
+/// entry that came, went or changed stands under the step's. The present state is bold, and what stands under a step is in the
+/// colours of a difference.
 pub fn history_text(
     alloc: Global,
     steps: ShownSteps<'_>,
     long: bool,
+    style: Style,
 ) -> Result<String, AllocError> {
     let mut text = String::new(alloc);
-    add_number(&mut text, 0, steps.cursor)?;
-    text.push_str("init\n")?;
+    add_state(&mut text, style, steps.cursor == 0, "0 init")?;
     for (position, change) in steps.changes.iter().enumerate() {
-        let mut line = String::new(alloc);
-        add_number(&mut line, position.saturating_add(1), steps.cursor)?;
-        add_step(alloc, &mut line, change)?;
-        add_cut(&mut text, line.as_str())?;
-        text.push_str("\n")?;
+        let number = position.saturating_add(1);
+        let mut step = format!(in alloc; "{number} ")?;
+        add_step(alloc, &mut step, change)?;
+        add_state(&mut text, style, steps.cursor == number, step.as_str())?;
         if long {
-            add_targets(alloc, &mut text, change)?;
-            add_entries(&mut text, change)?;
+            add_targets(alloc, &mut text, style, change)?;
+            add_entries(&mut text, style, change)?;
         }
     }
     Ok(text)
 }
 
+/// The line of a state, which is marked and bold where it is the present one.
+fn add_state(
+    text: &mut String,
+    style: Style,
+    is_present: bool,
+    told: &str,
+) -> Result<(), AllocError> {
+    if is_present {
+        style.begin(text, Ink::Bold)?;
+        text.push_str("* ")?;
+        add_cut(text, told)?;
+        style.end(text)?;
+    } else {
+        text.push_str("  ")?;
+        add_cut(text, told)?;
+    }
+    text.push_str("\n")
+}
+
 /// A line for what became of each target.
-fn add_targets(alloc: Global, text: &mut String, change: &Change) -> Result<(), AllocError> {
-    for line in target_lines(alloc, change.targets())? {
+fn add_targets(
+    alloc: Global,
+    text: &mut String,
+    style: Style,
+    change: &Change,
+) -> Result<(), AllocError> {
+    for line in target_lines(alloc, style, change.targets())? {
         let line = line.as_str();
         write!(text, "      {line}\n")?;
     }
@@ -48,18 +75,18 @@ fn add_targets(alloc: Global, text: &mut String, change: &Change) -> Result<(), 
 }
 
 /// A line for each entry. Those of a target that comes or goes are counted.
-fn add_entries(text: &mut String, change: &Change) -> Result<(), AllocError> {
+fn add_entries(text: &mut String, style: Style, change: &Change) -> Result<(), AllocError> {
     let mut last = None;
     for entry in change.entries() {
         match sign_of_whole(change.targets(), &entry.target) {
             None => {
                 add_indented(text, &entry.target)?;
-                add_entry_change(text, entry)?;
+                add_entry_change(text, style, entry)?;
                 text.push_str("\n")?;
             }
             Some(sign) if !has_same_target(last, entry) => {
                 add_indented(text, &entry.target)?;
-                add_entry_count(text, sign, change, &entry.target)?;
+                add_entry_count(text, style, sign, change, &entry.target)?;
             }
             Some(_) => {}
         }
@@ -82,17 +109,12 @@ fn add_target(text: &mut String, target: &TargetName) -> Result<(), AllocError> 
     write!(text, "{name}: ")
 }
 
-fn add_number(text: &mut String, step: usize, cursor: usize) -> Result<(), AllocError> {
-    let mark = if step == cursor { "*" } else { " " };
-    write!(text, "{mark} {step} ")
-}
-
-/// A line, or as much of it as a line may have.
-fn add_cut(text: &mut String, line: &str) -> Result<(), AllocError> {
-    if line.chars().count() <= WIDTH {
-        return text.push_str(line);
+/// What is told of a state, or as much of it as stands behind its mark in a line.
+fn add_cut(text: &mut String, told: &str) -> Result<(), AllocError> {
+    if told.chars().count() <= WIDTH - MARK {
+        return text.push_str(told);
     }
-    for letter in line.chars().take(WIDTH - 3) {
+    for letter in told.chars().take(WIDTH - MARK - 3) {
         text.push(letter)?;
     }
     text.push_str("...")
@@ -117,7 +139,8 @@ fn add_step(alloc: Global, text: &mut String, change: &Change) -> Result<(), All
 /// What became of targets.
 fn add_retarget(alloc: Global, text: &mut String, change: &Change) -> Result<(), AllocError> {
     text.push_str("retarget: ")?;
-    for (position, line) in target_lines(alloc, change.targets())?.iter().enumerate() {
+    let lines = target_lines(alloc, Style::plain(), change.targets())?;
+    for (position, line) in lines.iter().enumerate() {
         if position > 0 {
             text.push_str(", ")?;
         }

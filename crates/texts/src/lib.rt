@@ -19,5 +19,6 @@ pub mod outdated_text;
 mod required_by;
 mod requirer_text;
 pub mod shown;
+mod sign;
 mod target_text;
 pub mod tree_text;

@@ -47,7 +47,7 @@ fn entries_value(
 
 fn is_meant(name: Option<&Name>, entry: &Entry) -> bool {
     match name {
-        Some(name) => name.normal() == entry.name().normal(),
+        Some(name) => name == entry.name(),
         None => true,
     }
 }

@@ -1,8 +1,8 @@
 // Locks as tables for people: what is locked, and what requires it.
 
 use crate::shown::ShownLocks;
-use edits::{Entry, Environment, Line, Target};
-use phrases::{add_table, add_target_line};
+use edits::{Entry, Line, Target};
+use phrases::{Style, add_table, add_target_line};
 use std::alloc::{AllocError, Global};
 
 // One row of the table.
@@ -18,14 +18,14 @@ struct Row {
 
 /// A table for each target, in the order of the names, with an empty line between two.
 /// Above the table of a named target stands its name.
-pub fn lock_text(alloc: Global, locks: ShownLocks<'_>) -> Result<String, AllocError> {
+pub fn lock_text(alloc: Global, locks: ShownLocks<'_>, style: Style) -> Result<String, AllocError> {
     let mut text = String::new(alloc);
     for target in locks.targets {
         if !text.is_empty() {
             text.push_str("\n")?;
         }
         add_target_line(&mut text, target.name.as_str())?;
-        add_lock(alloc, &mut text, locks.lines.lines(), target)?;
+        add_lock(alloc, &mut text, style, locks.lines.lines(), target)?;
     }
     Ok(text)
 }
@@ -35,6 +35,7 @@ pub fn lock_text(alloc: Global, locks: ShownLocks<'_>) -> Result<String, AllocEr
 fn add_lock(
     alloc: Global,
     text: &mut String,
+    style: Style,
     lines: &[Line],
     target: &Target,
 ) -> Result<(), AllocError> {
@@ -44,7 +45,7 @@ fn add_lock(
         rows.push(new_row(alloc, entry)?)?;
     }
     for (position, line) in lines.iter().enumerate() {
-        if is_active(&target.environment, line) {
+        if line.is_active(&target.environment) {
             add_line(alloc, &mut rows, entries, line, position.saturating_add(1))?;
         }
     }
@@ -53,7 +54,7 @@ fn add_lock(
     }
     let cells = cells_of(alloc, rows)?;
     let heads = ["name", "version", "line", "needed by"];
-    add_table(alloc, text, heads.as_slice(), cells.as_slice())
+    add_table(alloc, text, style, heads.as_slice(), cells.as_slice())
 }
 
 fn new_row(alloc: Global, entry: &Entry) -> Result<Row, AllocError> {
@@ -64,14 +65,6 @@ fn new_row(alloc: Global, entry: &Entry) -> Result<Row, AllocError> {
         lines: String::new(alloc),
         needed_by: String::new(alloc),
     })
-}
-
-/// Whether the line counts in the environment.
-pub(crate) fn is_active(environment: &Environment, line: &Line) -> bool {
-    match line.requirement() {
-        Some(requirement) => requirement.is_active(environment),
-        None => false,
-    }
 }
 
 /// Notes the number of a line with the entry that it requires.

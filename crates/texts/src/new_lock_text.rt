@@ -2,6 +2,7 @@
 
 use crate::diff_text::add_entry_change;
 use edits::{Change, Entry, EntryChange, Name};
+use phrases::Style;
 use std::alloc::{AllocError, Global};
 use std::collections::BTreeMap;
 
@@ -39,7 +40,7 @@ fn add_other_index(
         return text.push_str(", another index");
     };
     text.push_str("another index: ")?;
-    add_entry_change(text, moved)?;
+    add_entry_change(text, Style::plain(), moved)?;
     match change.entries().len() {
         0 | 1 => Ok(()),
         2 => text.push_str(", 1 more entry"),

@@ -6,7 +6,7 @@ use crate::required_by::{RequiredBy, is_in_index, problem_of};
 use crate::requirer_text::{add_required_by, requirers_value};
 use edits::{Entry, Problem, Snapshot, State, Target};
 use pep440::Version;
-use phrases::{add_table, add_target_line};
+use phrases::{Style, add_table, add_target_line};
 use serde_json::{Map, Value, put};
 use std::alloc::{AllocError, Global};
 
@@ -18,10 +18,11 @@ pub fn outdated_text(
     alloc: Global,
     state: &State,
     snapshot: &Snapshot,
+    style: Style,
 ) -> Result<String, AllocError> {
     let mut text = String::new(alloc);
     for target in state.targets() {
-        let part = target_text(alloc, state, target, snapshot)?;
+        let part = target_text(alloc, state, target, snapshot, style)?;
         if part.is_empty() {
             continue;
         }
@@ -40,6 +41,7 @@ fn target_text(
     state: &State,
     target: &Target,
     snapshot: &Snapshot,
+    style: Style,
 ) -> Result<String, AllocError> {
     let problem = problem_of(alloc, state.lines(), target, snapshot)?;
     let found = outdated_of(alloc, state.lines().lines(), target, &problem)?;
@@ -47,7 +49,7 @@ fn target_text(
     if !found.is_empty() {
         let rows = rows_of(alloc, found.as_slice())?;
         let heads = ["name", "locked", "admitted", "newest", "held by"];
-        add_table(alloc, &mut text, heads.as_slice(), rows.as_slice())?;
+        add_table(alloc, &mut text, style, heads.as_slice(), rows.as_slice())?;
     }
     let entries = target.lock.entries();
     add_pins(

@@ -1,6 +1,6 @@
 // What requires the entries of a lock.
 
-use crate::lock_text::{is_active, position_of};
+use crate::lock_text::position_of;
 use edits::{Entry, Environment, Line, Name, Problem, ReqFile, Requirement, Snapshot, Target};
 use problems::Node;
 use problems::parts::counts;
@@ -76,7 +76,7 @@ fn add_lines<'a>(
     entries: &[Entry],
 ) -> Result<(), AllocError> {
     for (position, line) in lines.iter().enumerate() {
-        if is_active(environment, line) {
+        if line.is_active(environment) {
             add_line(requirers, entries, line, position.saturating_add(1))?;
         }
     }
@@ -217,7 +217,7 @@ fn add_needs<'a>(
 }
 
 fn is_own(entry: &Entry, name: &Name) -> bool {
-    entry.name().normal() == name.normal()
+    entry.name() == name
 }
 
 /// Whether a dependency counts with no extra, or with one of those of these nodes.

@@ -1,7 +1,7 @@
 // Locks as trees, from the lines down.
 
 use crate::json_text::{target_object, targets_text, text_value, version_value};
-use crate::lock_text::{is_active, position_of};
+use crate::lock_text::position_of;
 use crate::requirer_text::add_line_text;
 use crate::shown::ShownLocks;
 use edits::{Entry, Line, Name, Target};
@@ -16,16 +16,29 @@ const DEEPEST: usize = 40;
 #[derive(Clone, Copy)]
 enum TreeRow<'a> {
     /// An active line, with its number from 1.
-    Line(usize, &'a Line),
+    Line {
+        number: usize,
+        line: &'a Line,
+    },
     /// An entry, how many entries lead to it from a line, and whether it stands above already.
-    Entry(&'a Entry, usize, bool),
+    Entry {
+        entry: &'a Entry,
+        depth: usize,
+        is_above: bool,
+    },
 }
 
-// What is left to be told: the positions of entries, each with the number of entries that lead to it; and which entries
-// were told.
+// An entry that is left to be told: its position, and how many entries lead to it.
+#[derive(Clone, Copy)]
+struct LeftEntry {
+    position: usize,
+    depth: usize,
+}
+
+// The entries that are left to be told, and which were told.
 #[derive(Drop)]
 struct Walk {
-    left: Vec<(usize, usize)>,
+    left: Vec<LeftEntry>,
     told: Vec<bool>,
 }
 
@@ -47,11 +60,15 @@ pub fn tree_text(alloc: Global, locks: ShownLocks<'_>) -> Result<String, AllocEr
 
 fn add_row(text: &mut String, row: TreeRow<'_>) -> Result<(), AllocError> {
     match row {
-        TreeRow::Line(number, line) => {
+        TreeRow::Line { number, line } => {
             write!(text, "line {number}: ")?;
             add_line_text(text, line)?;
         }
-        TreeRow::Entry(entry, depth, is_above) => {
+        TreeRow::Entry {
+            entry,
+            depth,
+            is_above,
+        } => {
             add_depth(text, depth)?;
             let name = entry.name().normal();
             let version = entry.version();
@@ -89,8 +106,11 @@ fn rows_of<'a>(
         told: vec![in alloc; false; entries.len()]?,
     };
     for (position, line) in lines.iter().enumerate() {
-        if is_active(&target.environment, line) {
-            rows.push(TreeRow::Line(position.saturating_add(1), line))?;
+        if line.is_active(&target.environment) {
+            rows.push(TreeRow::Line {
+                number: position.saturating_add(1),
+                line,
+            })?;
             begin(&mut walk, entries, line)?;
             add_entries(&mut rows, &mut walk, entries, turns)?;
         }
@@ -113,7 +133,7 @@ fn put_left(
     depth: usize,
 ) -> Result<(), AllocError> {
     match position_of(entries, name.normal()) {
-        Some(position) => Ok(walk.left.push((position, depth))?),
+        Some(position) => Ok(walk.left.push(LeftEntry { position, depth })?),
         None => Ok(()),
     }
 }
@@ -127,12 +147,16 @@ fn add_entries<'a>(
     turns: usize,
 ) -> Result<(), AllocError> {
     for _ in 0..turns {
-        let Some((position, depth)) = walk.left.pop() else {
+        let Some(LeftEntry { position, depth }) = walk.left.pop() else {
             return Ok(());
         };
         if let Some(entry) = entries.get(position) {
             let is_above = was_told(walk, position);
-            rows.push(TreeRow::Entry(entry, depth, is_above))?;
+            rows.push(TreeRow::Entry {
+                entry,
+                depth,
+                is_above,
+            })?;
             if !is_above {
                 put_needed(walk, entries, entry, depth.saturating_add(1))?;
             }
@@ -192,12 +216,16 @@ pub fn tree_json(alloc: Global, locks: ShownLocks<'_>) -> Result<String, AllocEr
 fn row_value(alloc: Global, row: TreeRow<'_>) -> Result<Value, AllocError> {
     let mut members = Map::new(alloc);
     match row {
-        TreeRow::Line(number, line) => {
+        TreeRow::Line { number, line } => {
             put(&mut members, alloc, "line", Value::from(number))?;
             let text = text_value(alloc, line.text().trim())?;
             put(&mut members, alloc, "text", text)?;
         }
-        TreeRow::Entry(entry, depth, is_above) => {
+        TreeRow::Entry {
+            entry,
+            depth,
+            is_above,
+        } => {
             put(&mut members, alloc, "depth", Value::from(depth))?;
             let name = text_value(alloc, entry.name().normal())?;
             put(&mut members, alloc, "name", name)?;
