@@ -5,7 +5,7 @@ mod SameRules
 mod SaidConditions
 mod AskedRequirements
 mod EachAnswer
-mod OppositeSigns
+mod OppositeOperators
 mod KeptConditions
 mod SettledQuestions
 mod SettlingRelations

@@ -15,8 +15,8 @@ use Rattle.markers.specs.MarkerAtoms.{operand_text, relates}
 use Rattle.markers.specs.declared.comparison.Comparison.TheVariants as comparisons
 use Rattle.markers.specs.declared.marker_atom.Operand.{Operand}
 use Rattle.markers.specs.declared.marker_atom.Operand.TheVariants as operands
-use Rattle.markers.specs.declared.marker_atom.Operator.{Operator as Sign}
-use Rattle.markers.specs.declared.marker_atom.Operator.TheVariants as signs
+use Rattle.markers.specs.declared.marker_atom.MarkerOperator.{MarkerOperator}
+use Rattle.markers.specs.declared.marker_atom.MarkerOperator.TheVariants as marker_operators
 use Rattle.markers.specs.declared.variable.Variable.{Variable}
 use Rattle.pep440.specs.Matching.{above, at_least, below, operator_matches, same_release}
 use Rattle.pep440.specs.Order.{public_cmp, trimmed}
@@ -26,7 +26,7 @@ use Rattle.pep440.specs.declared.specifier.Clause.{Clause}
 use Rattle.pep440.specs.declared.specifier.Operator.{Operator}
 use Rattle.pep440.specs.declared.specifier.Operator.TheVariants as operators
 use Rattle.exports.specs.Conditions.{is_matched}
-use Rattle.exports.specs.Tied.Implication.{are_both, does_follow, has_no_other, has_release_of, is_from, is_plain, is_same_clause, is_same_operand, is_same_plain, is_same_sign, is_up_to, number_of, opposite_of, says, sign_number}
+use Rattle.exports.specs.Tied.Implication.{are_both, does_follow, has_no_other, has_release_of, is_from, is_plain, is_same_clause, is_same_marker_operator, is_same_operand, is_same_operator, is_same_plain, is_up_to, marker_operator_number, number_of, opposite_of, says}
 use Rattle.exports.specs.Tied.Kept.{ClauseFollows, Says, SaysAmong}
 use Rattle.exports.specs.declared.condition.Condition.{Condition}
 use Rattle.exports.specs.declared.condition.Condition.TheVariants.{Same, Matches, Holds}
@@ -243,6 +243,9 @@ told operators.Above = refl
 pub is_with : (operator : Operator) (number : ℕ) → (number_of operator == number) ≡ true → operator ≡ numbered number
 is_with operator number h = told operator ∙ ap numbered (nat-same (number_of operator) number h)
 
+pub same-operator : (operator wanted : Operator) → is_same_operator operator wanted ≡ true → operator ≡ wanted
+same-operator operator wanted h = is_with operator (number_of wanted) h ∙ sym (told wanted)
+
 pub opposite-turns : (operator other : Operator) (wanted version : VersionParts) → opposite_of operator ≡ Some other → operator_matches other wanted version ≡ true → operator_matches operator wanted version ≡ false
 opposite-turns operators.Compatible other wanted version e h = absurd cc
 opposite-turns operators.Equal other wanted version e h = let same : other ≡ operators.NotEqual = cc in not-so _ (rw same at h)
@@ -292,52 +295,53 @@ up_to-follows clause wanted p q g version h =
 
 same-follows : (clause wanted : Clause) → is_same_clause clause wanted ≡ true → ClauseFollows clause wanted
 same-follows clause wanted same version h =
-    let signs : clause.operator ≡ wanted.operator =
-    is_with clause.operator (number_of wanted.operator) (both-first (number_of clause.operator == number_of wanted.operator) _ same) ∙ sym (told wanted.operator) in
-    let versions : clause.version ≡ wanted.version = plain-same clause.version wanted.version (both-second (number_of clause.operator == number_of wanted.operator) _ same) in
-    ap (λ (o : Operator). operator_matches o wanted.version version) (sym signs) ∙ ap (λ (v : VersionParts). operator_matches clause.operator v version) (sym versions) ∙ h
+    let operators_are : clause.operator ≡ wanted.operator = same-operator clause.operator wanted.operator (both-first (is_same_operator clause.operator wanted.operator) _ same) in
+    let versions : clause.version ≡ wanted.version = plain-same clause.version wanted.version (both-second (is_same_operator clause.operator wanted.operator) _ same) in
+    ap (λ (o : Operator). operator_matches o wanted.version version) (sym operators_are) ∙ ap (λ (v : VersionParts). operator_matches clause.operator v version) (sym versions) ∙ h
 
 pub follows : (clause wanted : Clause) → does_follow clause wanted ≡ true → ClauseFollows clause wanted
-follows clause wanted h = elim (one-of (are_both 6 clause wanted && is_from clause.version wanted.version) _ h) [
+follows clause wanted h = elim (one-of (are_both operators.AtLeast clause wanted && is_from clause.version wanted.version) _ h) [
   | inl f ↦
-      (let both : are_both 6 clause wanted ≡ true = both-first (are_both 6 clause wanted) _ f in
-      from-follows clause wanted (is_with clause.operator 6 (both-first (number_of clause.operator == 6) _ both)) (is_with wanted.operator 6 (both-second (number_of clause.operator == 6) _ both))
-      (both-second (are_both 6 clause wanted) _ f))
-  | inr r ↦ elim (one-of (are_both 7 clause wanted && is_up_to clause.version wanted.version) _ r) [
+      (let both : are_both operators.AtLeast clause wanted ≡ true = both-first (are_both operators.AtLeast clause wanted) _ f in
+      from-follows clause wanted (same-operator clause.operator operators.AtLeast (both-first (is_same_operator clause.operator operators.AtLeast) _ both))
+      (same-operator wanted.operator operators.AtLeast (both-second (is_same_operator clause.operator operators.AtLeast) _ both))
+      (both-second (are_both operators.AtLeast clause wanted) _ f))
+  | inr r ↦ elim (one-of (are_both operators.Below clause wanted && is_up_to clause.version wanted.version) _ r) [
     | inl f ↦
-        (let both : are_both 7 clause wanted ≡ true = both-first (are_both 7 clause wanted) _ f in
-        up_to-follows clause wanted (is_with clause.operator 7 (both-first (number_of clause.operator == 7) _ both)) (is_with wanted.operator 7 (both-second (number_of clause.operator == 7) _ both))
-        (both-second (are_both 7 clause wanted) _ f))
+        (let both : are_both operators.Below clause wanted ≡ true = both-first (are_both operators.Below clause wanted) _ f in
+        up_to-follows clause wanted (same-operator clause.operator operators.Below (both-first (is_same_operator clause.operator operators.Below) _ both))
+        (same-operator wanted.operator operators.Below (both-second (is_same_operator clause.operator operators.Below) _ both))
+        (both-second (are_both operators.Below clause wanted) _ f))
     | inr s ↦ same-follows clause wanted s
   ]
 ]
 
 -- ---- conditions
 
-abbrev signed : ℕ → Sign
-signed n =
-    if n == 0 then signs.Compare comparisons.Compatible
-    else (if n == 1 then signs.Compare comparisons.Equal
-    else (if n == 2 then signs.Compare comparisons.NotEqual
-    else (if n == 3 then signs.Compare comparisons.AtMost
-    else (if n == 4 then signs.Compare comparisons.AtLeast
-    else (if n == 5 then signs.Compare comparisons.Below
-    else (if n == 6 then signs.Compare comparisons.Above
-    else (if n == 7 then signs.In else signs.NotIn)))))))
+abbrev marker_operator_numbered : ℕ → MarkerOperator
+marker_operator_numbered n =
+    if n == 0 then marker_operators.Compare comparisons.Compatible
+    else (if n == 1 then marker_operators.Compare comparisons.Equal
+    else (if n == 2 then marker_operators.Compare comparisons.NotEqual
+    else (if n == 3 then marker_operators.Compare comparisons.AtMost
+    else (if n == 4 then marker_operators.Compare comparisons.AtLeast
+    else (if n == 5 then marker_operators.Compare comparisons.Below
+    else (if n == 6 then marker_operators.Compare comparisons.Above
+    else (if n == 7 then marker_operators.In else marker_operators.NotIn)))))))
 
-told-sign : (sign : Sign) → sign ≡ signed (sign_number sign)
-told-sign (signs.Compare comparisons.Compatible) = refl
-told-sign (signs.Compare comparisons.Equal) = refl
-told-sign (signs.Compare comparisons.NotEqual) = refl
-told-sign (signs.Compare comparisons.AtMost) = refl
-told-sign (signs.Compare comparisons.AtLeast) = refl
-told-sign (signs.Compare comparisons.Below) = refl
-told-sign (signs.Compare comparisons.Above) = refl
-told-sign signs.In = refl
-told-sign signs.NotIn = refl
+told-marker_operator : (operator : MarkerOperator) → operator ≡ marker_operator_numbered (marker_operator_number operator)
+told-marker_operator (marker_operators.Compare comparisons.Compatible) = refl
+told-marker_operator (marker_operators.Compare comparisons.Equal) = refl
+told-marker_operator (marker_operators.Compare comparisons.NotEqual) = refl
+told-marker_operator (marker_operators.Compare comparisons.AtMost) = refl
+told-marker_operator (marker_operators.Compare comparisons.AtLeast) = refl
+told-marker_operator (marker_operators.Compare comparisons.Below) = refl
+told-marker_operator (marker_operators.Compare comparisons.Above) = refl
+told-marker_operator marker_operators.In = refl
+told-marker_operator marker_operators.NotIn = refl
 
-pub same-sign : (sign wanted : Sign) → is_same_sign sign wanted ≡ true → sign ≡ wanted
-same-sign sign wanted h = told-sign sign ∙ ap signed (nat-same (sign_number sign) (sign_number wanted) h) ∙ sym (told-sign wanted)
+pub same-marker_operator : (operator wanted : MarkerOperator) → is_same_marker_operator operator wanted ≡ true → operator ≡ wanted
+same-marker_operator operator wanted h = told-marker_operator operator ∙ ap marker_operator_numbered (nat-same (marker_operator_number operator) (marker_operator_number wanted) h) ∙ sym (told-marker_operator wanted)
 
 matched-follows : (clause wanted : Clause) (read : Option VersionParts) → ClauseFollows clause wanted → is_matched clause read ≡ true → is_matched wanted read ≡ true
 matched-follows clause wanted None f h = h
@@ -367,19 +371,19 @@ said-by (Matches own clause) (Matches variable wanted) h environment other meets
     ap (λ (text : List ℕ). is_matched wanted (version_read text)) (sym (one-text other own variable (both-first (place_of own == place_of variable) _ h)))
     ∙ matched-follows clause wanted (version_read (text_of other own)) (follows clause wanted (both-second (place_of own == place_of variable) _ h)) matched
 said-by (Matches own clause) (Same variable) h environment other meets matched = absurd cc
-said-by (Same own) (Holds left sign right) h environment other meets same =
+said-by (Same own) (Holds left operator right) h environment other meets same =
     let lefts : operand_text other left ≡ operand_text environment left = one-operand environment other own left (both-first (has_no_other own left) _ h) same in
     let rights : operand_text other right ≡ operand_text environment right = one-operand environment other own right (both-second (has_no_other own left) _ h) same in
-    (λ i. relates sign (lefts i) (rights i)) ∙ meets
-said-by (Holds left sign right) (Holds first wanted second) h environment other meets holds =
-    let operators : sign ≡ wanted = same-sign sign wanted (both-first (is_same_sign sign wanted) _ h) in
-    let both : (is_same_operand left first && is_same_operand right second) ≡ true = both-second (is_same_sign sign wanted) _ h in
+    (λ i. relates operator (lefts i) (rights i)) ∙ meets
+said-by (Holds left operator right) (Holds first wanted second) h environment other meets holds =
+    let operators : operator ≡ wanted = same-marker_operator operator wanted (both-first (is_same_marker_operator operator wanted) _ h) in
+    let both : (is_same_operand left first && is_same_operand right second) ≡ true = both-second (is_same_marker_operator operator wanted) _ h in
     let lefts : operand_text other left ≡ operand_text other first = same-operand other left first (both-first (is_same_operand left first) _ both) in
     let rights : operand_text other right ≡ operand_text other second = same-operand other right second (both-second (is_same_operand left first) _ both) in
     sym (λ i. relates (operators i) (lefts i) (rights i)) ∙ holds
-said-by (Matches own clause) (Holds left sign right) h environment other meets matched = absurd cc
-said-by (Holds left sign right) (Same variable) h environment other meets holds = absurd cc
-said-by (Holds left sign right) (Matches variable wanted) h environment other meets holds = absurd cc
+said-by (Matches own clause) (Holds left operator right) h environment other meets matched = absurd cc
+said-by (Holds left operator right) (Same variable) h environment other meets holds = absurd cc
+said-by (Holds left operator right) (Matches variable wanted) h environment other meets holds = absurd cc
 
 pub said-among : (conditions : List Condition) (wanted : Condition) → list_any (λ condition. says condition wanted) conditions ≡ true → SaysAmong conditions wanted
 said-among [] wanted h environment other meets all = absurd cc

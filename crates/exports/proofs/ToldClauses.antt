@@ -14,6 +14,8 @@ use Rattle.std.specs.Result.{result_ok}
 use Rattle.lists.specs.Spaces.{is_space_or_tab}
 use Rattle.markers.specs.Comparisons.{clauses_read, has_comma, sign as marker_sign}
 use Rattle.markers.specs.MarkerSpelling.{is_inside}
+use Rattle.markers.specs.Tied.MarkerTokens.{comparison_of}
+use Rattle.markers.proofs.TokensAreSpelled.{same-sign}
 use Rattle.pep440.specs.Canonical.{canonical, dev_text, epoch_text, local_text, part_text, post_text, pre_text, release_text}
 use Rattle.pep440.specs.Grammar.{IsVersionText, is_space}
 use Rattle.pep440.specs.SetGrammar.{AreClauses, IsClause, clause_texts, counted, sign, star, takes}
@@ -33,7 +35,7 @@ use Rattle.pep440.proofs.CanonicalFacts.{canonical-spells}
 use Rattle.pep440.proofs.ReleaseFacts.{all_fit}
 use Rattle.pep440.proofs.SetAnswersOnce.{set-read}
 use Rattle.pep440.proofs.VersionFacts.{fits-parts}
-use Rattle.exports.specs.Tied.Told.{comparison_of, version_told}
+use Rattle.exports.specs.Tied.Told.{version_told}
 
 -- ---- the bytes of what is written
 
@@ -270,17 +272,6 @@ told-set c h taken =
     let dark : list_all is_dark text ≡ true = all-append is_dark (sign c.operator) (version_told c) (sign-dark c.operator) (told-pass is_dark without_blanks refl c h) in
     let clause : IsClause (trim_blank text) c = subst (λ (t : List ℕ). IsClause t c) (sym (around-kept text dark)) (told-clause c h taken) in
     set-read text (Ok (c ∷ [])) (subst (λ (ts : List (List ℕ)). AreClauses ts (c ∷ [])) (sym (told-texts c h)) (clause, h.numbers, tt))
-
-same-sign : (o : Operator) → marker_sign (comparison_of o) ≡ sign o
-same-sign operators.Compatible = refl
-same-sign operators.Equal = refl
-same-sign operators.NotEqual = refl
-same-sign operators.EqualPrefix = refl
-same-sign operators.NotEqualPrefix = refl
-same-sign operators.AtMost = refl
-same-sign operators.AtLeast = refl
-same-sign operators.Below = refl
-same-sign operators.Above = refl
 
 -- what is written for a clause reads as that clause
 pub told-read : (c : Clause) → IsVersion c.version → takes c.operator c.version ≡ true → clauses_read (comparison_of c.operator) (version_told c) ≡ Some (c ∷ [])

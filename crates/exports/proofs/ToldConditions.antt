@@ -17,17 +17,18 @@ use Rattle.markers.specs.Environment.{IsEnvironment, Texts, is_unescaped, is_ver
 use Rattle.markers.specs.Marker.{marker_of}
 use Rattle.markers.specs.MarkerAtoms.{Relation, begins_with, contains, relation_holds}
 use Rattle.markers.specs.MarkerSpelling.{is_inside}
+use Rattle.markers.specs.Tied.MarkerTokens.{comparison_of}
 use Rattle.markers.specs.declared.comparison.Comparison.TheVariants as comparisons
 use Rattle.markers.specs.declared.marker_atom.Operand.{Operand}
 use Rattle.markers.specs.declared.marker_atom.Operand.TheVariants as operands
-use Rattle.markers.specs.declared.marker_atom.Operator.TheVariants as operators
+use Rattle.markers.specs.declared.marker_atom.MarkerOperator.TheVariants as operators
 use Rattle.markers.specs.declared.variable.Variable.{Variable}
 use Rattle.markers.specs.declared.variable.Variable.TheVariants as variables
 use Rattle.pep440.specs.Matching.{clause_matches}
 use Rattle.pep440.specs.Version.{VersionParts}
 use Rattle.pep440.specs.declared.specifier.Clause.{Clause}
 use Rattle.exports.specs.Conditions.{IsMarkerOf, IsTellable, Meets, MeetsAll, can_stand, is_matched}
-use Rattle.exports.specs.Tied.Told.{comparison_of, conditions_told, operand_told, related, relation_told, same_told, told, version_told, with_all, with_more}
+use Rattle.exports.specs.Tied.Told.{conditions_told, operand_told, related, relation_told, same_told, told, version_told, with_all, with_more}
 use Rattle.exports.specs.declared.condition.Condition.{Condition}
 use Rattle.exports.specs.declared.condition.Condition.TheVariants as conditions
 use Rattle.exports.proofs.ToldClauses.{told-inside, told-read}

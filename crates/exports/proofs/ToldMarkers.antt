@@ -24,8 +24,8 @@ use Rattle.markers.specs.declared.comparison.Comparison.TheVariants as compariso
 use Rattle.markers.specs.declared.marker_atom.Atom.TheVariants as atoms
 use Rattle.markers.specs.declared.marker_atom.Operand.{Operand}
 use Rattle.markers.specs.declared.marker_atom.Operand.TheVariants as operands
-use Rattle.markers.specs.declared.marker_atom.Operator.{Operator}
-use Rattle.markers.specs.declared.marker_atom.Operator.TheVariants as operators
+use Rattle.markers.specs.declared.marker_atom.MarkerOperator.{MarkerOperator}
+use Rattle.markers.specs.declared.marker_atom.MarkerOperator.TheVariants as operators
 use Rattle.markers.specs.declared.variable.Variable.{Variable}
 use Rattle.markers.specs.declared.variable.Variable.TheVariants as variables
 use Rattle.exports.specs.Tied.Told.{operand_told, operator_told, relation_told}
@@ -70,7 +70,7 @@ right-tokens : (o : Operand) → IsQuotable o → (after : List ℕ) (ts : List 
 right-tokens o q after ts ends h = (32 ∷ [], operand_told o, after, refl, refl, operand-token o q, operand-ends o after ends, h)
 
 -- the operator, and what stands behind it
-operator-tokens : (operator : Operator) (behind : List ℕ) (ts : List Token) → AreTokens (32 ∷ behind) ts → AreTokens (32 ∷ (operator_told operator ++ 32 ∷ behind)) (operator_tokens operator ++ ts)
+operator-tokens : (operator : MarkerOperator) (behind : List ℕ) (ts : List Token) → AreTokens (32 ∷ behind) ts → AreTokens (32 ∷ (operator_told operator ++ 32 ∷ behind)) (operator_tokens operator ++ ts)
 operator-tokens (operators.Compare comparisons.Compatible) behind ts h = (32 ∷ [], codes "~=", 32 ∷ behind, refl, refl, refl, refl, h)
 operator-tokens (operators.Compare comparisons.Equal) behind ts h = (32 ∷ [], codes "==", 32 ∷ behind, refl, refl, refl, refl, h)
 operator-tokens (operators.Compare comparisons.NotEqual) behind ts h = (32 ∷ [], codes "!=", 32 ∷ behind, refl, refl, refl, refl, h)
@@ -250,7 +250,7 @@ sign-flat comparisons.AtLeast = refl
 sign-flat comparisons.Below = refl
 sign-flat comparisons.Above = refl
 
-operator-flat : (o : Operator) → list_all is_flat (operator_told o) ≡ true
+operator-flat : (o : MarkerOperator) → list_all is_flat (operator_told o) ≡ true
 operator-flat (operators.Compare c) = sign-flat c
 operator-flat operators.In = refl
 operator-flat operators.NotIn = refl

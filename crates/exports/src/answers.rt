@@ -4,7 +4,6 @@ ghost use Rattle.std.specs.Prelude.{◌≡◌, IfOk, IsFalse, IsTrue};
 ghost use Rattle.std.specs.List.{list_all};
 ghost use Rattle.std.specs.Option.{option_copied};
 ghost use Rattle.pep508.specs.Requirement.{requirement_of};
-ghost use Rattle.problems.specs.Admission.{meets_python};
 ghost use Rattle.exports.specs.Alike.{marker_in};
 ghost use Rattle.exports.specs.Questions.{AnswerEachAlike, AnswerOneApart};
 ghost use Rattle.exports.specs.Tied.Answers.{are_matched_alike, is_line_alike, is_marker_alike, is_matched_alike, is_python_alike, is_relation_alike, is_release_alike, is_same_answer, is_wanted_alike};
@@ -12,8 +11,9 @@ ghost use Rattle.exports.specs.Tied.Reach.{AreAsked};
 
 use crate::reach::Asked;
 use markers::marker_relations::CachedRelation;
-use pep508::{Environment, Line, Marker, Requirement, Variable};
-use snapshot::{Release, RequiresPython, Snapshot};
+use pep508::{Environment, Line, Marker, Requirement};
+use problems::meets_python;
+use snapshot::{Release, Snapshot};
 use std::alloc::{AllocError, Global};
 
 fn is_same_answer(answer: bool, other: bool) -> bool
@@ -86,17 +86,6 @@ fn are_dependencies_alike(
     Ok(true)
 }
 
-/// Whether what a release asks of Python is met.
-fn is_python_met(environment: &Environment, python: Option<&RequiresPython>) -> bool
-    ensures { result ≡ meets_python environment.now (option_copied python.entry) }
-{
-    match (python, environment.version(Variable::PythonFullVersion)) {
-        (None, _) => true,
-        (Some(python), Some(version)) => python.set().matches(version),
-        (Some(_), None) => false,
-    }
-}
-
 /// Whether what a release asks is answered alike.
 fn is_release_alike(
     alloc: Global,
@@ -107,7 +96,7 @@ fn is_release_alike(
     ensures { IfOk result (λ alike. alike ≡ is_release_alike one.now other.now release.now) }
 {
     let python = release.requires_python();
-    if !is_same_answer(is_python_met(one, python), is_python_met(other, python)) {
+    if !is_same_answer(meets_python(one, python), meets_python(other, python)) {
         return Ok(false);
     }
     let alike = are_dependencies_alike(alloc, one, other, release.dependencies())?;

@@ -1,6 +1,6 @@
 // What a lock may ask of an environment.
 
-use markers::marker_relations::{Operand, Operator};
+use markers::marker_relations::{MarkerOperator, Operand};
 use pep440::Clause;
 use pep508::Variable;
 
@@ -12,5 +12,5 @@ pub enum Condition {
     /// The text of the variable, one of the two whose texts are versions, reads as one that the clause matches.
     Matches(Variable, Clause),
     /// The relation between these operands holds there.
-    Holds(Operand, Operator, Operand),
+    Holds(Operand, MarkerOperator, Operand),
 }

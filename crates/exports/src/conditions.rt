@@ -93,20 +93,29 @@ fn place_of(condition: &Condition) -> usize {
     }
 }
 
-/// A whole text comes first, then lower bounds, upper ones, other clauses, and relations.
-fn rank_of(condition: &Condition) -> usize {
+/// What a condition asks of its variable, in the order in which the conditions on one are told.
+#[derive(Debug, Clone, Copy, PartialEq, Eq, PartialOrd, Ord)]
+enum Rank {
+    WholeText,
+    LowerBound,
+    UpperBound,
+    OtherClause,
+    Relation,
+}
+
+fn rank_of(condition: &Condition) -> Rank {
     match condition {
-        Condition::Same(_) => 0,
+        Condition::Same(_) => Rank::WholeText,
         Condition::Matches(_, clause) => match clause.operator {
-            Operator::AtLeast | Operator::Above => 1,
-            Operator::AtMost | Operator::Below => 2,
+            Operator::AtLeast | Operator::Above => Rank::LowerBound,
+            Operator::AtMost | Operator::Below => Rank::UpperBound,
             Operator::Compatible
             | Operator::Equal
             | Operator::NotEqual
             | Operator::EqualPrefix
-            | Operator::NotEqualPrefix => 3,
+            | Operator::NotEqualPrefix => Rank::OtherClause,
         },
-        Condition::Holds(_, _, _) => 4,
+        Condition::Holds(_, _, _) => Rank::Relation,
     }
 }
 

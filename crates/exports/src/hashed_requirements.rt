@@ -2,7 +2,7 @@
 
 use lists::Text;
 use phrases::add_plain;
-use states::{Entry, FileEntry, Lock};
+use states::{DistributionFile, Entry, Lock};
 use std::alloc::{AllocError, Global};
 use std::collections::BTreeSet;
 
@@ -45,7 +45,7 @@ fn digests_of(alloc: Global, entry: &Entry) -> Result<BTreeSet<Text>, AllocError
     Ok(digests)
 }
 
-fn add_digest(digests: &mut BTreeSet<Text>, file: &FileEntry) -> Result<(), AllocError> {
+fn add_digest(digests: &mut BTreeSet<Text>, file: &DistributionFile) -> Result<(), AllocError> {
     digests.insert(file.sha256.clone()?)?;
     Ok(())
 }

@@ -3,10 +3,10 @@
 ghost use Rattle.std.specs.Prelude.{◌≡◌};
 ghost use Rattle.std.specs.List.{list_any};
 ghost use Rattle.markers.specs.Environment.{place_of};
-ghost use Rattle.exports.specs.Tied.Implication.{are_both, does_follow, has_no_other, has_release_of, is_from, is_plain, is_same_clause, is_same_operand, is_same_plain, is_same_sign, is_up_to, number_of, opposite_of, says, sign_number};
+ghost use Rattle.exports.specs.Tied.Implication.{are_both, does_follow, has_no_other, has_release_of, is_from, is_plain, is_same_clause, is_same_marker_operator, is_same_operand, is_same_operator, is_same_plain, is_up_to, marker_operator_number, number_of, opposite_of, says};
 
 use crate::condition::Condition;
-use markers::marker_relations::{Operand, Operator as Sign};
+use markers::marker_relations::{MarkerOperator, Operand};
 use pep440::{Clause, Operator, Version};
 use pep508::{Comparison, Variable};
 
@@ -27,23 +27,19 @@ pub(crate) fn opposite(operator: Operator) -> Option<Operator>
     }
 }
 
-pub(crate) fn number_of(operator: Operator) -> usize
+fn number_of(operator: Operator) -> usize
     ensures { result ≡ number_of operator }
 {
-    match operator {
-        Operator::Compatible => 0,
-        Operator::Equal => 1,
-        Operator::NotEqual => 2,
-        Operator::EqualPrefix => 3,
-        Operator::NotEqualPrefix => 4,
-        Operator::AtMost => 5,
-        Operator::AtLeast => 6,
-        Operator::Below => 7,
-        Operator::Above => 8,
-    }
+    operator as usize
 }
 
-pub(crate) fn place_of(variable: Variable) -> usize
+pub(crate) fn is_same_operator(operator: Operator, wanted: Operator) -> bool
+    ensures { result ≡ is_same_operator operator wanted }
+{
+    number_of(operator) == number_of(wanted)
+}
+
+fn place_of(variable: Variable) -> usize
     ensures { result ≡ place_of variable }
 {
     variable as usize
@@ -72,11 +68,11 @@ pub(crate) fn is_same_plain(one: &Version, other: &Version) -> bool
 fn is_same_clause(clause: &Clause, wanted: &Clause) -> bool
     ensures { result ≡ is_same_clause clause.now wanted.now }
 {
-    number_of(clause.operator) == number_of(wanted.operator)
+    is_same_operator(clause.operator, wanted.operator)
         && is_same_plain(&clause.version, &wanted.version)
 }
 
-pub(crate) fn is_from(bound: &Version, wanted: &Version) -> bool
+fn is_from(bound: &Version, wanted: &Version) -> bool
     ensures { result ≡ is_from bound.now wanted.now }
 {
     bound.cmp_public(wanted).is_ge()
@@ -88,10 +84,11 @@ fn is_up_to(bound: &Version, wanted: &Version) -> bool
     bound.cmp_public(wanted).is_le() && (wanted.is_pre() || !bound.is_pre())
 }
 
-fn are_both(number: usize, clause: &Clause, wanted: &Clause) -> bool
-    ensures { result ≡ are_both number clause.now wanted.now }
+/// Whether this operator is that of both clauses.
+fn are_both(operator: Operator, clause: &Clause, wanted: &Clause) -> bool
+    ensures { result ≡ are_both operator clause.now wanted.now }
 {
-    number_of(clause.operator) == number && number_of(wanted.operator) == number
+    is_same_operator(clause.operator, operator) && is_same_operator(wanted.operator, operator)
 }
 
 /// Whether the first clause is known to match no version that the wanted one doesn't: a lower bound says each lesser
@@ -99,34 +96,35 @@ fn are_both(number: usize, clause: &Clause, wanted: &Clause) -> bool
 pub(crate) fn does_follow(clause: &Clause, wanted: &Clause) -> bool
     ensures { result ≡ does_follow clause.now wanted.now }
 {
-    (are_both(6, clause, wanted) && is_from(&clause.version, &wanted.version))
-        || ((are_both(7, clause, wanted) && is_up_to(&clause.version, &wanted.version))
+    (are_both(Operator::AtLeast, clause, wanted) && is_from(&clause.version, &wanted.version))
+        || ((are_both(Operator::Below, clause, wanted)
+            && is_up_to(&clause.version, &wanted.version))
             || is_same_clause(clause, wanted))
 }
 
-fn sign_number(sign: Sign) -> usize
-    ensures { result ≡ sign_number sign }
+fn marker_operator_number(operator: MarkerOperator) -> usize
+    ensures { result ≡ marker_operator_number operator }
 {
-    match sign {
-        Sign::Compare(Comparison::Compatible) => 0,
-        Sign::Compare(Comparison::Equal) => 1,
-        Sign::Compare(Comparison::NotEqual) => 2,
-        Sign::Compare(Comparison::AtMost) => 3,
-        Sign::Compare(Comparison::AtLeast) => 4,
-        Sign::Compare(Comparison::Below) => 5,
-        Sign::Compare(Comparison::Above) => 6,
-        Sign::In => 7,
-        Sign::NotIn => 8,
+    match operator {
+        MarkerOperator::Compare(Comparison::Compatible) => 0,
+        MarkerOperator::Compare(Comparison::Equal) => 1,
+        MarkerOperator::Compare(Comparison::NotEqual) => 2,
+        MarkerOperator::Compare(Comparison::AtMost) => 3,
+        MarkerOperator::Compare(Comparison::AtLeast) => 4,
+        MarkerOperator::Compare(Comparison::Below) => 5,
+        MarkerOperator::Compare(Comparison::Above) => 6,
+        MarkerOperator::In => 7,
+        MarkerOperator::NotIn => 8,
     }
 }
 
-pub(crate) fn is_same_sign(sign: Sign, wanted: Sign) -> bool
-    ensures { result ≡ is_same_sign sign wanted }
+fn is_same_marker_operator(operator: MarkerOperator, wanted: MarkerOperator) -> bool
+    ensures { result ≡ is_same_marker_operator operator wanted }
 {
-    sign_number(sign) == sign_number(wanted)
+    marker_operator_number(operator) == marker_operator_number(wanted)
 }
 
-pub(crate) fn is_same_operand(operand: &Operand, wanted: &Operand) -> bool
+fn is_same_operand(operand: &Operand, wanted: &Operand) -> bool
     ensures { result ≡ is_same_operand operand.now wanted.now }
 {
     match (operand, wanted) {
@@ -167,8 +165,8 @@ fn says(condition: &Condition, wanted: &Condition) -> bool
         (Condition::Same(own), Condition::Holds(left, _, right)) => {
             has_no_other(*own, left) && has_no_other(*own, right)
         }
-        (Condition::Holds(left, sign, right), Condition::Holds(first, wanted, second)) => {
-            is_same_sign(*sign, *wanted)
+        (Condition::Holds(left, operator, right), Condition::Holds(first, wanted, second)) => {
+            is_same_marker_operator(*operator, *wanted)
                 && (is_same_operand(left, first) && is_same_operand(right, second))
         }
         (Condition::Matches(_, _), Condition::Holds(_, _, _)) => false,

@@ -7,32 +7,15 @@ ghost use Rattle.markers.specs.Variables.{variable_name};
 ghost use Rattle.markers.specs.declared.comparison.Comparison.TheVariants as comparisons;
 ghost use Rattle.pep440.specs.SetGrammar.{star};
 ghost use Rattle.exports.specs.Conditions.{IsMarkerOf, IsTellable};
-ghost use Rattle.exports.specs.Tied.Told.{comparison_of, conditions_told, has, operand_told, operator_told, related_told, relation_told, same_told, told, with_all, with_more};
+ghost use Rattle.exports.specs.Tied.Told.{conditions_told, has, operand_told, operator_told, related_told, relation_told, same_told, told, with_all, with_more};
 
 use crate::condition::Condition;
 use crate::sign_clauses::reads_as_clause;
 use markers::marker_laws::a_text_reads_as_the_marker_that_it_spells;
-use markers::marker_relations::{Operand, Operator as Sign};
+use markers::marker_relations::{MarkerOperator, Operand};
 use pep440::Operator;
 use pep508::{Comparison, Environment, Variable};
 use std::alloc::{AllocError, Global};
-
-/// The comparison that is written for an operator.
-fn comparison_of(operator: Operator) -> Comparison
-    ensures { result ≡ comparison_of operator }
-{
-    match operator {
-        Operator::Compatible => Comparison::Compatible,
-        Operator::Equal => Comparison::Equal,
-        Operator::NotEqual => Comparison::NotEqual,
-        Operator::EqualPrefix => Comparison::Equal,
-        Operator::NotEqualPrefix => Comparison::NotEqual,
-        Operator::AtMost => Comparison::AtMost,
-        Operator::AtLeast => Comparison::AtLeast,
-        Operator::Below => Comparison::Below,
-        Operator::Above => Comparison::Above,
-    }
-}
 
 /// What stands behind the version of a clause.
 fn star_of(operator: Operator) -> &'static str
@@ -111,13 +94,13 @@ fn push_same(
 }
 
 /// How an operator of markers is written.
-fn word_of(sign: Sign) -> &'static str
-    ensures { result.now ≡ operator_told sign }
+fn word_of(operator: MarkerOperator) -> &'static str
+    ensures { result.now ≡ operator_told operator }
 {
-    match sign {
-        Sign::Compare(comparison) => comparison.sign(),
-        Sign::In => "in",
-        Sign::NotIn => "not in",
+    match operator {
+        MarkerOperator::Compare(comparison) => comparison.sign(),
+        MarkerOperator::In => "in",
+        MarkerOperator::NotIn => "not in",
     }
 }
 
@@ -144,16 +127,16 @@ fn push_operand(text: &mut String, operand: &Operand) -> Result<(), AllocError>
 fn push_relation(
     text: &mut String,
     left: &Operand,
-    sign: Sign,
+    operator: MarkerOperator,
     right: &Operand,
 ) -> Result<(), AllocError>
     ensures { IfOk result (λ _. string_bytes text.new ≡ with_more (string_bytes text.old)
-        (relation_told (record { left = left.now; operator = sign; right = right.now }))) }
+        (relation_told (record { left = left.now; operator = operator; right = right.now }))) }
 {
     push_and(text)?;
     push_operand(text, left)?;
     text.push_str(" ")?;
-    text.push_str(word_of(sign))?;
+    text.push_str(word_of(operator))?;
     text.push_str(" ")?;
     push_operand(text, right)?;
     Ok(())
@@ -178,12 +161,12 @@ fn push_condition(
             let version = &clause.version;
             let end = star_of(clause.operator);
             let value = format!(in alloc; "{version}{end}")?;
-            let sign = comparison_of(clause.operator).sign();
+            let sign = Comparison::of(clause.operator).sign();
             push_related(text, *variable, sign, value.as_str())?;
             Ok(())
         }
-        Condition::Holds(left, sign, right) => {
-            push_relation(text, left, *sign, right)?;
+        Condition::Holds(left, operator, right) => {
+            push_relation(text, left, *operator, right)?;
             Ok(())
         }
     }

@@ -1,47 +1,60 @@
-// Which signs and clauses are opposite.
+// Which operators and clauses are opposite.
 
 ghost use Rattle.std.specs.Prelude.{◌≡◌};
-ghost use Rattle.exports.specs.Tied.Opposites.{are_opposed, has_number, has_opposed, is_fixed, is_opposed, opposite_sign};
+ghost use Rattle.exports.specs.Tied.Opposites.{are_opposed, has_operator, has_opposed, is_fixed, is_opposed, opposite_marker_operator};
 
-use crate::implication::{is_same_plain, number_of, opposite};
-use markers::marker_relations::{Operand, Operator as Sign};
+use crate::implication::{is_same_operator, is_same_plain, opposite};
+use markers::marker_relations::{MarkerOperator, Operand};
 use pep440::{Clause, Operator};
 use pep508::Comparison;
 
 /// The operator of markers that holds of texts exactly where this one doesn't; `None` where there is none.
-pub(crate) fn opposite_sign(sign: Sign) -> Option<Sign>
-    ensures { result ≡ opposite_sign sign }
-{
-    match sign {
-        Sign::Compare(Comparison::Compatible) => None,
-        Sign::Compare(Comparison::Equal) => Some(Sign::Compare(Comparison::NotEqual)),
-        Sign::Compare(Comparison::NotEqual) => Some(Sign::Compare(Comparison::Equal)),
-        Sign::Compare(Comparison::AtMost) => Some(Sign::Compare(Comparison::Above)),
-        Sign::Compare(Comparison::AtLeast) => Some(Sign::Compare(Comparison::Below)),
-        Sign::Compare(Comparison::Below) => Some(Sign::Compare(Comparison::AtLeast)),
-        Sign::Compare(Comparison::Above) => Some(Sign::Compare(Comparison::AtMost)),
-        Sign::In => Some(Sign::NotIn),
-        Sign::NotIn => Some(Sign::In),
-    }
-}
-
-/// Whether what stands right of a sign reads alike in every environment: a comparison reads clauses there, and `in` none.
-pub(crate) fn is_fixed(sign: Sign, right: &Operand) -> bool
-    ensures { result ≡ is_fixed sign right.now }
-{
-    match (sign, right) {
-        (Sign::Compare(_), Operand::Variable(_)) => false,
-        (Sign::Compare(_), Operand::Quoted(_)) => true,
-        (Sign::In, _) => true,
-        (Sign::NotIn, _) => true,
-    }
-}
-
-fn has_number(operator: Option<Operator>, number: usize) -> bool
-    ensures { result ≡ has_number operator number }
+pub(crate) fn opposite_marker_operator(operator: MarkerOperator) -> Option<MarkerOperator>
+    ensures { result ≡ opposite_marker_operator operator }
 {
     match operator {
-        Some(operator) => number_of(operator) == number,
+        MarkerOperator::Compare(Comparison::Compatible) => None,
+        MarkerOperator::Compare(Comparison::Equal) => Some(MarkerOperator::Compare(
+            Comparison::NotEqual,
+        )),
+        MarkerOperator::Compare(Comparison::NotEqual) => Some(MarkerOperator::Compare(
+            Comparison::Equal,
+        )),
+        MarkerOperator::Compare(Comparison::AtMost) => Some(MarkerOperator::Compare(
+            Comparison::Above,
+        )),
+        MarkerOperator::Compare(Comparison::AtLeast) => Some(MarkerOperator::Compare(
+            Comparison::Below,
+        )),
+        MarkerOperator::Compare(Comparison::Below) => Some(MarkerOperator::Compare(
+            Comparison::AtLeast,
+        )),
+        MarkerOperator::Compare(Comparison::Above) => Some(MarkerOperator::Compare(
+            Comparison::AtMost,
+        )),
+        MarkerOperator::In => Some(MarkerOperator::NotIn),
+        MarkerOperator::NotIn => Some(MarkerOperator::In),
+    }
+}
+
+/// Whether what stands right of an operator reads alike in every environment: a comparison reads clauses there, and `in` none.
+pub(crate) fn is_fixed(operator: MarkerOperator, right: &Operand) -> bool
+    ensures { result ≡ is_fixed operator right.now }
+{
+    match (operator, right) {
+        (MarkerOperator::Compare(_), Operand::Variable(_)) => false,
+        (MarkerOperator::Compare(_), Operand::Quoted(_)) => true,
+        (MarkerOperator::In, _) => true,
+        (MarkerOperator::NotIn, _) => true,
+    }
+}
+
+/// Whether there is an operator, and it is this one.
+fn has_operator(operator: Option<Operator>, wanted: Operator) -> bool
+    ensures { result ≡ has_operator operator wanted }
+{
+    match operator {
+        Some(operator) => is_same_operator(operator, wanted),
         None => false,
     }
 }
@@ -50,7 +63,7 @@ fn has_number(operator: Option<Operator>, number: usize) -> bool
 fn is_opposed(clause: &Clause, other: &Clause) -> bool
     ensures { result ≡ is_opposed clause.now other.now }
 {
-    has_number(opposite(clause.operator), number_of(other.operator))
+    has_operator(opposite(clause.operator), other.operator)
         && is_same_plain(&clause.version, &other.version)
 }
 

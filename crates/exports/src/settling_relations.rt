@@ -8,14 +8,14 @@ ghost use Rattle.markers.specs.MarkerAtoms.{relation_holds};
 ghost use Rattle.markers.specs.Tied.Known.{known_clauses};
 ghost use Rattle.exports.specs.Conditions.{can_stand};
 ghost use Rattle.exports.specs.Tied.Kept.{AreApart, CanStand, IsTurned, SettlesRelation};
-ghost use Rattle.exports.specs.Tied.Opposites.{is_fixed, opposite_sign};
+ghost use Rattle.exports.specs.Tied.Opposites.{is_fixed, opposite_marker_operator};
 ghost use Rattle.exports.specs.declared.condition.Condition.TheVariants.{Holds};
 
 use crate::condition::Condition;
 use crate::kept_conditions::is_versioned;
-use crate::opposites::{are_opposed, is_fixed, opposite_sign};
+use crate::opposites::{are_opposed, is_fixed, opposite_marker_operator};
 use crate::sign_clauses::{known_clauses, reads_as_clause};
-use markers::marker_relations::{CachedRelation, Operand, Operator as Sign};
+use markers::marker_relations::{CachedRelation, MarkerOperator, Operand};
 use pep440::{Fault, SpecifierSet, Version};
 use pep508::Environment;
 use std::alloc::{AllocError, Global};
@@ -77,23 +77,24 @@ fn may_stand(
         (Operand::Variable(variable), _, _) => {
             Ok(relation.quoted_clauses().is_none() || environment.version(*variable).is_some())
         }
-        (Operand::Quoted(text), Sign::Compare(comparison), Operand::Variable(variable)) => {
-            let reads = reads_as_clause(alloc, comparison, environment.text(*variable))?;
-            let is_version = reads_as_version(alloc, text.as_str())?;
-            Ok(!reads || is_version)
-        }
+        (Operand::Quoted(text), MarkerOperator::Compare(comparison), Operand::Variable(variable)) =>
+            {
+                let reads = reads_as_clause(alloc, comparison, environment.text(*variable))?;
+                let is_version = reads_as_version(alloc, text.as_str())?;
+                Ok(!reads || is_version)
+            }
         _ => Ok(true),
     }
 }
 
 /// The condition that the operands of a relation are so related.
-fn holding(relation: &CachedRelation, sign: Sign) -> Result<Condition, AllocError>
+fn holding(relation: &CachedRelation, operator: MarkerOperator) -> Result<Condition, AllocError>
     ensures { IfOk result (λ condition. condition
-        ≡ Holds relation.now.left sign relation.now.right) }
+        ≡ Holds relation.now.left operator relation.now.right) }
 {
     let left = relation.left().clone()?;
     let right = relation.right().clone()?;
-    Ok(Condition::Holds(left, sign, right))
+    Ok(Condition::Holds(left, operator, right))
 }
 
 /// Whether the environment's version of an operand matches the second clauses, of which one is opposed to one of the first.
@@ -114,19 +115,19 @@ fn are_apart(
     opposed.matches(version) && are_opposed(clauses.clauses(), opposed.clauses())
 }
 
-/// Whether the opposite of a relation that doesn't hold may be told for it, given the clauses behind the opposite sign: where both
-/// signs read clauses, or neither does.
+/// Whether the opposite of a relation that doesn't hold may be told for it, given the clauses behind the opposite operator: where both
+/// operators read clauses, or neither does.
 fn is_turned(
     environment: &Environment,
     relation: &CachedRelation,
-    sign: Sign,
+    operator: MarkerOperator,
     opposed: Option<&SpecifierSet>,
 ) -> bool
     requires fails { relation_holds relation.now environment.now ≡ false }
-    requires opposite { opposite_sign relation.now.operator ≡ Some sign }
-    requires fixed { is_fixed sign relation.now.right ≡ true }
-    requires reads { option_copied opposed ≡ known_clauses sign relation.now.right }
-    ensures { IsTrue result → IsTurned environment.now relation.now sign }
+    requires opposite { opposite_marker_operator relation.now.operator ≡ Some operator }
+    requires fixed { is_fixed operator relation.now.right ≡ true }
+    requires reads { option_copied opposed ≡ known_clauses operator relation.now.right }
+    ensures { IsTrue result → IsTurned environment.now relation.now operator }
 {
     match (relation.quoted_clauses(), opposed) {
         (None, None) => true,
@@ -143,17 +144,17 @@ fn may_turn(
     alloc: Global,
     environment: &Environment,
     relation: &CachedRelation,
-    sign: Sign,
+    operator: MarkerOperator,
 ) -> Result<bool, AllocError>
     requires fails { relation_holds relation.now environment.now ≡ false }
-    requires opposite { opposite_sign relation.now.operator ≡ Some sign }
-    ensures { IfOk result (λ may. IsTrue may → IsTurned environment.now relation.now sign) }
+    requires opposite { opposite_marker_operator relation.now.operator ≡ Some operator }
+    ensures { IfOk result (λ may. IsTrue may → IsTurned environment.now relation.now operator) }
 {
-    if !is_fixed(sign, relation.right()) {
+    if !is_fixed(operator, relation.right()) {
         return Ok(false);
     }
-    let opposed = known_clauses(alloc, sign, relation.right())?;
-    Ok(is_turned(environment, relation, sign, opposed.as_ref()))
+    let opposed = known_clauses(alloc, operator, relation.right())?;
+    Ok(is_turned(environment, relation, operator, opposed.as_ref()))
 }
 
 /// The condition that tells a relation that holds: the relation itself, if it may be told as it is.
@@ -185,13 +186,13 @@ fn told_turned(
     ensures { IfOk result (λ found. IfSome found
         (SettlesRelation environment.now relation.now)) }
 {
-    let Some(sign) = opposite_sign(relation.operator()) else {
+    let Some(operator) = opposite_marker_operator(relation.operator()) else {
         return Ok(None);
     };
-    if !may_turn(alloc, environment, relation, sign)? {
+    if !may_turn(alloc, environment, relation, operator)? {
         return Ok(None);
     }
-    let condition = holding(relation, sign)?;
+    let condition = holding(relation, operator)?;
     Ok(Some(condition))
 }
 

@@ -4,7 +4,7 @@ ghost use Rattle.std.specs.Prelude.{◌≡◌, IfOk, is_some};
 ghost use Rattle.markers.specs.Comparisons.{clauses_read, has_comma};
 ghost use Rattle.markers.specs.Tied.Known.{known_clauses};
 
-use markers::marker_relations::{Operand, Operator};
+use markers::marker_relations::{MarkerOperator, Operand};
 use pep440::{Fault, SpecifierSet};
 use pep508::Comparison;
 use std::alloc::{AllocError, Global};
@@ -51,13 +51,13 @@ pub(crate) fn reads_as_clause(
 /// The clauses that an operand is known to read as behind an operator.
 pub(crate) fn known_clauses(
     alloc: Global,
-    operator: Operator,
+    operator: MarkerOperator,
     operand: &Operand,
 ) -> Result<Option<SpecifierSet>, AllocError>
     ensures { IfOk result (λ found. found ≡ known_clauses operator operand.now) }
 {
     match (operator, operand) {
-        (Operator::Compare(comparison), Operand::Quoted(text)) => {
+        (MarkerOperator::Compare(comparison), Operand::Quoted(text)) => {
             read_clauses(alloc, comparison, text.as_str())
         }
         _ => Ok(None),

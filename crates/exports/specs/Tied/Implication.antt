@@ -8,8 +8,8 @@ use Rattle.markers.specs.Environment.{place_of}
 use Rattle.markers.specs.declared.comparison.Comparison.TheVariants as comparisons
 use Rattle.markers.specs.declared.marker_atom.Operand.{Operand}
 use Rattle.markers.specs.declared.marker_atom.Operand.TheVariants as operands
-use Rattle.markers.specs.declared.marker_atom.Operator.{Operator as Sign}
-use Rattle.markers.specs.declared.marker_atom.Operator.TheVariants as signs
+use Rattle.markers.specs.declared.marker_atom.MarkerOperator.{MarkerOperator}
+use Rattle.markers.specs.declared.marker_atom.MarkerOperator.TheVariants as marker_operators
 use Rattle.markers.specs.declared.variable.Variable.{Variable}
 use Rattle.pep440.specs.Order.{public_cmp}
 use Rattle.pep440.specs.Version.{VersionParts, is_post, is_pre}
@@ -43,6 +43,9 @@ number_of operators.AtLeast = 6
 number_of operators.Below = 7
 number_of operators.Above = 8
 
+abbrev pub is_same_operator : Operator → Operator → Bool
+is_same_operator operator wanted = number_of operator == number_of wanted
+
 -- no part but the epoch and the release
 abbrev pub is_plain : VersionParts → Bool
 is_plain version = not (is_pre version) && (not (is_post version) && (length version.local == 0))
@@ -56,7 +59,7 @@ is_same_plain one other = is_plain one && (is_plain other && has_release_of one 
 
 -- the clauses are the same, with plain versions
 abbrev pub is_same_clause : Clause → Clause → Bool
-is_same_clause clause wanted = (number_of clause.operator == number_of wanted.operator) && is_same_plain clause.version wanted.version
+is_same_clause clause wanted = is_same_operator clause.operator wanted.operator && is_same_plain clause.version wanted.version
 
 -- the lower bound is no less
 abbrev pub is_from : VersionParts → VersionParts → Bool
@@ -66,30 +69,30 @@ is_from bound wanted = is_ge (public_cmp bound wanted)
 abbrev pub is_up_to : VersionParts → VersionParts → Bool
 is_up_to bound wanted = is_le (public_cmp bound wanted) && (is_pre wanted || not (is_pre bound))
 
--- whether two numbers of operators are those of lower bounds, or of upper bounds
-abbrev pub are_both : ℕ → Clause → Clause → Bool
-are_both number clause wanted = (number_of clause.operator == number) && (number_of wanted.operator == number)
+-- this operator is that of both clauses
+abbrev pub are_both : Operator → Clause → Clause → Bool
+are_both operator clause wanted = is_same_operator clause.operator operator && is_same_operator wanted.operator operator
 
 abbrev pub does_follow : Clause → Clause → Bool
 does_follow clause wanted =
-    (are_both 6 clause wanted && is_from clause.version wanted.version)
-    || ((are_both 7 clause wanted && is_up_to clause.version wanted.version)
+    (are_both operators.AtLeast clause wanted && is_from clause.version wanted.version)
+    || ((are_both operators.Below clause wanted && is_up_to clause.version wanted.version)
     || is_same_clause clause wanted)
 
 -- the number of an operator of markers
-abbrev pub sign_number : Sign → ℕ
-sign_number (signs.Compare comparisons.Compatible) = 0
-sign_number (signs.Compare comparisons.Equal) = 1
-sign_number (signs.Compare comparisons.NotEqual) = 2
-sign_number (signs.Compare comparisons.AtMost) = 3
-sign_number (signs.Compare comparisons.AtLeast) = 4
-sign_number (signs.Compare comparisons.Below) = 5
-sign_number (signs.Compare comparisons.Above) = 6
-sign_number signs.In = 7
-sign_number signs.NotIn = 8
+abbrev pub marker_operator_number : MarkerOperator → ℕ
+marker_operator_number (marker_operators.Compare comparisons.Compatible) = 0
+marker_operator_number (marker_operators.Compare comparisons.Equal) = 1
+marker_operator_number (marker_operators.Compare comparisons.NotEqual) = 2
+marker_operator_number (marker_operators.Compare comparisons.AtMost) = 3
+marker_operator_number (marker_operators.Compare comparisons.AtLeast) = 4
+marker_operator_number (marker_operators.Compare comparisons.Below) = 5
+marker_operator_number (marker_operators.Compare comparisons.Above) = 6
+marker_operator_number marker_operators.In = 7
+marker_operator_number marker_operators.NotIn = 8
 
-abbrev pub is_same_sign : Sign → Sign → Bool
-is_same_sign sign wanted = sign_number sign == sign_number wanted
+abbrev pub is_same_marker_operator : MarkerOperator → MarkerOperator → Bool
+is_same_marker_operator operator wanted = marker_operator_number operator == marker_operator_number wanted
 
 -- both are the same variable, or the same text
 abbrev pub is_same_operand : Operand → Operand → Bool
@@ -108,8 +111,8 @@ says (Same own) (Same variable) = place_of own == place_of variable
 says (Same own) (Matches variable wanted) = place_of own == place_of variable
 says (Matches own clause) (Matches variable wanted) = (place_of own == place_of variable) && does_follow clause wanted
 says (Matches own clause) (Same variable) = false
-says (Same own) (Holds left sign right) = has_no_other own left && has_no_other own right
-says (Holds left sign right) (Holds first wanted second) = is_same_sign sign wanted && (is_same_operand left first && is_same_operand right second)
-says (Matches own clause) (Holds left sign right) = false
-says (Holds left sign right) (Same variable) = false
-says (Holds left sign right) (Matches variable clause) = false
+says (Same own) (Holds left operator right) = has_no_other own left && has_no_other own right
+says (Holds left operator right) (Holds first wanted second) = is_same_marker_operator operator wanted && (is_same_operand left first && is_same_operand right second)
+says (Matches own clause) (Holds left operator right) = false
+says (Holds left operator right) (Same variable) = false
+says (Holds left operator right) (Matches variable clause) = false

@@ -7,7 +7,7 @@ use Rattle.markers.specs.Environment.{Texts, text_of}
 use Rattle.markers.specs.MarkerAtoms.{Relation, operand_text, relation_holds}
 use Rattle.markers.specs.MarkerRelations.{RelationAlike}
 use Rattle.markers.specs.declared.marker_atom.Operand.{Operand}
-use Rattle.markers.specs.declared.marker_atom.Operator.{Operator as Sign}
+use Rattle.markers.specs.declared.marker_atom.MarkerOperator.{MarkerOperator}
 use Rattle.markers.specs.declared.variable.Variable.{Variable}
 use Rattle.pep440.specs.Matching.{clause_matches, matches}
 use Rattle.pep440.specs.Version.{VersionParts}
@@ -61,9 +61,9 @@ pub record Settles (environment : Texts) (variable : Variable) (clause settling 
 abbrev pub CanStand : Relation → Type 0
 CanStand r = (can_stand r.left ≡ true) × (can_stand r.right ≡ true)
 
--- a relation with another sign
-abbrev pub with_sign : Relation → Sign → Relation
-with_sign r sign = record { left = r.left; operator = sign; right = r.right }
+-- a relation with another operator
+abbrev pub with_operator : Relation → MarkerOperator → Relation
+with_operator r operator = record { left = r.left; operator = operator; right = r.right }
 
 -- the environment's own version of an operand matches the second clauses, of which one is opposed to one of the first
 pub record AreApart (environment : Texts) (left : Operand) (clauses opposed : List Clause) : Type 0 where
@@ -72,10 +72,10 @@ pub record AreApart (environment : Texts) (left : Operand) (clauses opposed : Li
   pub matched : matches opposed version ≡ true
   pub are : are_opposed clauses opposed ≡ true
 
--- with another sign the relation holds in its own environment, and with both signs in none
-pub record IsTurned (environment : Texts) (r : Relation) (sign : Sign) : Type 0 where
-  pub own : relation_holds (with_sign r sign) environment ≡ true
-  pub apart : (other : Texts) → relation_holds (with_sign r sign) other ≡ true → relation_holds r other ≡ false
+-- with another operator the relation holds in its own environment, and with both operators in none
+pub record IsTurned (environment : Texts) (r : Relation) (operator : MarkerOperator) : Type 0 where
+  pub own : relation_holds (with_operator r operator) environment ≡ true
+  pub apart : (other : Texts) → relation_holds (with_operator r operator) other ≡ true → relation_holds r other ≡ false
 
 -- its own environment meets the condition, which can be told; wherever it is met, the relation holds as it does there
 pub record SettlesRelation (environment : Texts) (r : Relation) (settling : Condition) : Type 0 where

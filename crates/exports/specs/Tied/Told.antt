@@ -5,33 +5,19 @@ use Rattle.std.specs.List.{flat_map}
 use Rattle.markers.specs.Comparisons.{clauses_read, sign}
 use Rattle.markers.specs.Environment.{Texts, joined, text_of}
 use Rattle.markers.specs.MarkerAtoms.{Relation}
+use Rattle.markers.specs.Tied.MarkerTokens.{comparison_of}
 use Rattle.markers.specs.Variables.{variable_name}
-use Rattle.markers.specs.declared.comparison.Comparison.{Comparison}
 use Rattle.markers.specs.declared.comparison.Comparison.TheVariants as comparisons
 use Rattle.markers.specs.declared.marker_atom.Operand.{Operand}
 use Rattle.markers.specs.declared.marker_atom.Operand.TheVariants as operands
-use Rattle.markers.specs.declared.marker_atom.Operator.{Operator as MarkerOperator}
-use Rattle.markers.specs.declared.marker_atom.Operator.TheVariants as relates
+use Rattle.markers.specs.declared.marker_atom.MarkerOperator.{MarkerOperator}
+use Rattle.markers.specs.declared.marker_atom.MarkerOperator.TheVariants as marker_operators
 use Rattle.markers.specs.declared.variable.Variable.{Variable}
 use Rattle.pep440.specs.Canonical.{canonical}
 use Rattle.pep440.specs.SetGrammar.{star}
 use Rattle.pep440.specs.declared.specifier.Clause.{Clause}
-use Rattle.pep440.specs.declared.specifier.Operator.{Operator}
-use Rattle.pep440.specs.declared.specifier.Operator.TheVariants as operators
 use Rattle.exports.specs.declared.condition.Condition.{Condition}
 use Rattle.exports.specs.declared.condition.Condition.TheVariants.{Same, Matches, Holds}
-
--- the comparison that is written for an operator
-abbrev pub comparison_of : Operator → Comparison
-comparison_of operators.Compatible = comparisons.Compatible
-comparison_of operators.Equal = comparisons.Equal
-comparison_of operators.NotEqual = comparisons.NotEqual
-comparison_of operators.EqualPrefix = comparisons.Equal
-comparison_of operators.NotEqualPrefix = comparisons.NotEqual
-comparison_of operators.AtMost = comparisons.AtMost
-comparison_of operators.AtLeast = comparisons.AtLeast
-comparison_of operators.Below = comparisons.Below
-comparison_of operators.Above = comparisons.Above
 
 -- what is written behind the sign of a clause
 abbrev pub version_told : Clause → List ℕ
@@ -43,16 +29,16 @@ related variable operator text = record { left = operands.Variable variable; ope
 
 -- the text stands in that of the variable
 abbrev pub has : Variable → List ℕ → Relation
-has variable text = record { left = operands.Quoted text; operator = relates.In; right = operands.Variable variable }
+has variable text = record { left = operands.Quoted text; operator = marker_operators.In; right = operands.Variable variable }
 
 -- that a variable has this text: by `==`, or where a version would be compared, by each of both standing in the other
 abbrev pub same_told : Variable → List ℕ → Bool → List Relation
-same_told variable text reads = if reads then related variable relates.In text ∷ has variable text ∷ [] else related variable (relates.Compare comparisons.Equal) text ∷ []
+same_told variable text reads = if reads then related variable marker_operators.In text ∷ has variable text ∷ [] else related variable (marker_operators.Compare comparisons.Equal) text ∷ []
 
 -- the relations by which a condition is told
 abbrev pub told : Texts → Condition → List Relation
 told environment (Same variable) = same_told variable (text_of environment variable) (is_some (clauses_read comparisons.Equal (text_of environment variable)))
-told environment (Matches variable clause) = related variable (relates.Compare (comparison_of clause.operator)) (version_told clause) ∷ []
+told environment (Matches variable clause) = related variable (marker_operators.Compare (comparison_of clause.operator)) (version_told clause) ∷ []
 told environment (Holds left operator right) = record { left = left; operator = operator; right = right } ∷ []
 
 -- ---- texts
@@ -62,9 +48,9 @@ operand_told (operands.Variable variable) = variable_name variable
 operand_told (operands.Quoted text) = codes "\"" ++ (text ++ codes "\"")
 
 abbrev pub operator_told : MarkerOperator → List ℕ
-operator_told (relates.Compare comparison) = sign comparison
-operator_told relates.In = codes "in"
-operator_told relates.NotIn = codes "not in"
+operator_told (marker_operators.Compare comparison) = sign comparison
+operator_told marker_operators.In = codes "in"
+operator_told marker_operators.NotIn = codes "not in"
 
 abbrev pub relation_told : Relation → List ℕ
 relation_told r = operand_told r.left ++ (codes " " ++ (operator_told r.operator ++ (codes " " ++ operand_told r.right)))
