@@ -61,9 +61,10 @@ impl Details {
         if has_moved(alloc, applied)? {
             let old = state_at(alloc, session, from.cursor)?;
             let kept = state_that_keeps(alloc, old, wanted, snapshot)?;
-            add_moved(alloc, &mut self.changes, applied, kept.as_ref())?;
+            let style = self.manner.style;
+            add_moved(alloc, &mut self.changes, style, applied, kept.as_ref())?;
         }
-        add_change_notes(alloc, &mut self.known, state, change, snapshot)?;
+        add_change_notes(alloc, &mut self.known.text, state, change, snapshot)?;
         Ok(self.add_forgotten(changed, session)?)
     }
 
@@ -103,7 +104,7 @@ impl Details {
         if !self.manner.tells {
             return Ok(());
         }
-        add_lock_notes(alloc, &mut self.known, session.state(), snapshot)?;
+        add_lock_notes(alloc, &mut self.known.text, session.state(), snapshot)?;
         if !self.manner.is_person {
             return Ok(());
         }
@@ -167,10 +168,13 @@ impl Details {
         }
         let options = self.options.as_str();
         match command {
-            Command::Edit(Edit::Upgrade(_) | Edit::UpgradeAll, _) => write!(
-                self.known,
-                "Nothing newer fits. What holds newer releases back is told by:\n    reqlock{options} outdated\n"
-            ),
+            Command::Edit(Edit::Upgrade(_) | Edit::UpgradeAll, _) => {
+                self.known.push_str(
+                    "Nothing newer fits. What holds newer releases back is told by:\n",
+                )?;
+                self.known.begin_command()?;
+                write!(self.known, "reqlock{options} outdated\n")
+            }
             Command::Edit(
                 Edit::Add(_)
                 | Edit::Remove(_)

@@ -1,6 +1,6 @@
 // What is told of a file of the folder that somebody else has changed: why it is refused, and what to type next.
 
-use crate::checkout_details::{Checkout, checkout_of};
+use crate::checkout_details::{Checkout, checkout_of, progress_in_checkout};
 use crate::details::{CallFiles, Details};
 use crate::older_journal_details::{FolderLocks, locks_in};
 use inputs::InputFile;
@@ -13,6 +13,26 @@ use std::str;
 pub(crate) const CHECKOUT: &str =
     " checkout HEAD -- requirements.txt 'pylock*.toml' reqlock.journal\n";
 
+/// What git has left unfinished.
+#[derive(Clone, Copy)]
+enum Unfinished {
+    /// A conflict, at a line of the file.
+    Conflict(usize),
+    /// What is in progress in the checkout, as a sentence of it begins.
+    Progress(&'static str),
+}
+
+/// What git has left unfinished in a file of these bytes, or in its checkout.
+fn unfinished_in(bytes: &[u8], checkout: Option<Checkout>) -> Option<Unfinished> {
+    match conflict_line(str::from_utf8(bytes).unwrap_or("")) {
+        Some(line) => Some(Unfinished::Conflict(line)),
+        None => match progress_in_checkout(checkout) {
+            Some(progress) => Some(Unfinished::Progress(progress)),
+            None => None,
+        },
+    }
+}
+
 impl Details {
     /// Notes of a file of the folder that isn't the one which was saved.
     pub(crate) fn add_disagreement<R: Files + AllocGlobal>(
@@ -23,8 +43,8 @@ impl Details {
         bytes: &[u8],
     ) -> Result<(), AllocError> {
         let checkout = checkout_of(rt, files.dir)?;
-        if self.add_conflict(files, checkout, file, bytes)? || self.add_progress(files, checkout)? {
-            return Ok(());
+        if let Some(unfinished) = unfinished_in(bytes, checkout) {
+            return self.add_unfinished(files, checkout, file, unfinished);
         }
         self.add_stopped_save(rt, files.dir, file)?;
         let locks = locks_in(rt, files.dir)?;
@@ -50,9 +70,9 @@ impl Details {
             self.add_lock_call(files, checkout)?;
             self.add_staging(files.dir)?;
         } else {
-            self.known.push_str(
-                "With a copy of the saved one this takes the change over:\n    reqlock",
-            )?;
+            self.known.push_str("With a copy of the saved one this takes the change over:\n")?;
+            self.known.begin_command()?;
+            self.known.push_str("reqlock")?;
             self.known.push_str(self.options.as_str())?;
             if files.index.is_none() {
                 self.known.push_str(" --index index.json")?;
@@ -130,8 +150,8 @@ impl Details {
         file: &InputFile,
     ) -> Result<(), AllocError> {
         let checkout = checkout_of(rt, files.dir)?;
-        if self.add_progress(files, checkout)? {
-            return Ok(());
+        if let Some(progress) = progress_in_checkout(checkout) {
+            return self.add_progress(files, checkout, progress);
         }
         self.add_stopped_save(rt, files.dir, file)?;
         self.known
@@ -151,10 +171,8 @@ impl Details {
         bytes: &[u8],
     ) -> Result<(), AllocError> {
         let checkout = checkout_of(rt, files.dir)?;
-        if self.add_conflict(files, checkout, &InputFile::Journal, bytes)?
-            || self.add_progress(files, checkout)?
-        {
-            return Ok(());
+        if let Some(unfinished) = unfinished_in(bytes, checkout) {
+            return self.add_unfinished(files, checkout, &InputFile::Journal, unfinished);
         }
         self.known.push_str(
             "The journal isn't as it was saved. Where git has the files, this brings them back as they were:\n",
@@ -164,22 +182,23 @@ impl Details {
         self.add_beginning(files.dir, &locks_in(rt, files.dir)?)
     }
 
-    /// What to do where git left a conflict in a file; and whether it did.
-    fn add_conflict(
+    /// What to do where git has left something unfinished.
+    fn add_unfinished(
         &mut self,
         files: &CallFiles<'_>,
         checkout: Option<Checkout>,
         file: &InputFile,
-        bytes: &[u8],
-    ) -> Result<bool, AllocError> {
-        let Some(line) = conflict_line(str::from_utf8(bytes).unwrap_or("")) else {
-            return Ok(false);
-        };
-        write!(
-            self.known,
-            "git left a conflict at line {line} of {file}. While the merge is in progress, put the lines that you want into requirements.txt, without git's marks; then this merges the pins:\n"
-        )?;
-        self.add_lock_call(files, checkout)?;
-        Ok(true)
+        unfinished: Unfinished,
+    ) -> Result<(), AllocError> {
+        match unfinished {
+            Unfinished::Conflict(line) => {
+                write!(
+                    self.known,
+                    "git left a conflict at line {line} of {file}. While the merge is in progress, put the lines that you want into requirements.txt, without git's marks; then this merges the pins:\n"
+                )?;
+                self.add_lock_call(files, checkout)
+            }
+            Unfinished::Progress(progress) => self.add_progress(files, checkout, progress),
+        }
     }
 }

@@ -33,6 +33,14 @@ pub(crate) struct Checkout {
     pub(crate) has_settings: bool,
 }
 
+/// How a sentence begins of what is in progress in a checkout, if something is.
+pub(crate) fn progress_in_checkout(checkout: Option<Checkout>) -> Option<&'static str> {
+    match checkout {
+        Some(checkout) => checkout.progress,
+        None => None,
+    }
+}
+
 /// The checkout that a folder stands in; none where no `.git` stands there or above. What can't be read counts as absent.
 pub(crate) fn checkout_of<R: Files + AllocGlobal>(
     rt: &R,
@@ -120,27 +128,18 @@ fn small_text<R: Files + AllocGlobal>(rt: &R, path: &str, most: u64) -> Option<S
 }
 
 impl Details {
-    /// What to do while git is in the middle of something; and whether it is.
+    /// What to do while git is in the middle of something, as a sentence of that begins.
     pub(crate) fn add_progress(
         &mut self,
         files: &CallFiles<'_>,
         checkout: Option<Checkout>,
-    ) -> Result<bool, AllocError> {
-        let Some(
-            Checkout {
-                progress: Some(progress),
-                has_settings: _,
-            },
-        ) = checkout
-        else {
-            return Ok(false);
-        };
+        progress: &str,
+    ) -> Result<(), AllocError> {
         write!(
             self.known,
             "{progress} is in progress. Put the lines that you want into requirements.txt; then this locks them, and keeps the pins of both sides:\n"
         )?;
-        self.add_lock_call(files, checkout)?;
-        Ok(true)
+        self.add_lock_call(files, checkout)
     }
 
     /// The command that locks what somebody else changed in a checkout.
@@ -150,29 +149,32 @@ impl Details {
         checkout: Option<Checkout>,
     ) -> Result<(), AllocError> {
         if checkout.is_some_and(|checkout| checkout.has_settings) {
-            self.known.push_str("    rql")?;
+            self.known.begin_command()?;
+            self.known.push_str("rql")?;
             if files.dir != "." {
                 self.known.push_str(" -C")?;
-                add_word(&mut self.known, files.dir)?;
+                add_word(&mut self.known.text, files.dir)?;
             }
             return self.known.push_str(" lock\n");
         }
-        self.known.push_str("    reqlock-merge")?;
+        self.known.begin_command()?;
+        self.known.push_str("reqlock-merge")?;
         if files.dir != "." {
             self.known.push_str(" --dir")?;
-            add_word(&mut self.known, files.dir)?;
+            add_word(&mut self.known.text, files.dir)?;
         }
         self.known.push_str(" --index")?;
-        add_word(&mut self.known, files.index.unwrap_or("index.json"))?;
+        add_word(&mut self.known.text, files.index.unwrap_or("index.json"))?;
         self.known.push_str("\n")
     }
 
     /// The beginning of a command of git in the folder.
     pub(crate) fn add_git(&mut self, dir: &str) -> Result<(), AllocError> {
-        self.known.push_str("    git")?;
+        self.known.begin_command()?;
+        self.known.push_str("git")?;
         if dir != "." {
             self.known.push_str(" -C")?;
-            add_word(&mut self.known, dir)?;
+            add_word(&mut self.known.text, dir)?;
         }
         Ok(())
     }

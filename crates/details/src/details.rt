@@ -5,7 +5,7 @@ use crate::manner::Manner;
 use inputs::target_files::TargetPath;
 use inputs::{InputFile, path_of};
 use notes::{IndexMaker, IndexPlan, Lacks};
-use phrases::{Style, add_word};
+use phrases::{Notes, Style, add_word};
 use std::alloc::{AllocError, Global};
 use std::io::Write;
 use std::rt::Files;
@@ -22,14 +22,14 @@ pub struct Details {
     index: String,
     environments: String,
     maker: IndexMaker,
-    /// What a command changed.
+    /// What a command changed, as it looks in the manner of the call.
     pub changes: String,
     // what is known of it, of a refusal or of a fault
-    pub(crate) known: String,
-    // why there is no solution
+    pub(crate) known: Notes,
+    // why there is no solution, as it looks in the manner of the call
     pub(crate) reasons: String,
     // what to type next
-    pub(crate) steps: String,
+    pub(crate) steps: Notes,
     /// What the index lacks.
     pub lacks: Lacks,
     // whether this is of the fault that the call ends with
@@ -61,9 +61,9 @@ impl Details {
             environments: String::new(alloc),
             maker: IndexMaker::First,
             changes: String::new(alloc),
-            known: String::new(alloc),
+            known: Notes::new(alloc),
             reasons: String::new(alloc),
-            steps: String::new(alloc),
+            steps: Notes::new(alloc),
             lacks: Lacks::new(alloc, manner.tells_lacks),
             is_of_fault: false,
         }
@@ -144,21 +144,21 @@ impl Details {
         } else {
             // without memory for a manner: as it stands
             write_text(self.changes.as_str(), errors);
-            write_text(self.known.as_str(), errors);
+            write_text(self.known.text.as_str(), errors);
             write_text(self.reasons.as_str(), errors);
-            write_text(self.steps.as_str(), errors);
+            write_text(self.steps.text.as_str(), errors);
         }
     }
 
     /// All of it, as it looks in the manner of the call.
     fn shown(&self, alloc: Global) -> Result<String, AllocError> {
         let style: Style = self.manner.style;
-        let mut text = style.change(alloc, self.changes.clone()?)?;
-        text.push_str(style.notes(alloc, self.known.clone()?)?.as_str())?;
-        text.push_str(style.explanation(alloc, self.reasons.clone()?)?.as_str())?;
-        text.push_str(style.notes(alloc, self.steps.clone()?)?.as_str())?;
-        let lacks = self.lacks.text(alloc, self.plan())?;
-        text.push_str(style.notes(alloc, lacks)?.as_str())?;
+        let mut text = self.changes.clone()?;
+        text.push_str(self.known.shown(alloc, style)?.as_str())?;
+        text.push_str(self.reasons.as_str())?;
+        text.push_str(self.steps.shown(alloc, style)?.as_str())?;
+        let lacks = self.lacks.told(alloc, self.plan())?;
+        text.push_str(lacks.shown(alloc, style)?.as_str())?;
         Ok(text)
     }
 }

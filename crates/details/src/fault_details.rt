@@ -3,12 +3,12 @@
 use crate::details::{CallFiles, Details};
 use edits::{Cause, Refusal, Target, TargetName};
 use inputs::target_files::environment_path;
-use inputs::{InputFault, InputFile, LinkOut, NO_REGULAR_FILE, TOO_LONG, path_of, read_file};
+use inputs::{InputFault, InputFile, LinkOut, path_of, read_file};
 use notes::{
-    BadEnvironment, ENVIRONMENT, INDEX, IndexPlan, add_bad_lines, add_environment_command,
-    add_environment_note, add_index_note, add_named_step, add_near_locked, form_of, is_address,
+    BadEnvironment, ENVIRONMENT, INDEX, IndexPlan, add_bad_lines, add_environment_note,
+    add_index_note, add_named_step, add_near_locked, form_of,
 };
-use phrases::add_plain;
+use phrases::{Notes, add_plain};
 use std::alloc::{AllocError, Global};
 use std::io::ErrorKind;
 use std::rt::Files;
@@ -27,24 +27,19 @@ impl Details {
             return Ok(());
         }
         match stop {
-            Stop::Input(file, InputFault::Unreadable) => self.add_unread(rt, files, file),
+            Stop::Input(file, InputFault::Unreadable(unread)) => Ok(self.add_unread(
+                rt, files, file, unread,
+            )?),
             Stop::Input(file, fault) => self.add_refused_file(rt, files, file, fault),
             Stop::Unwritten(_) if !self.is_of_fault => Ok(self.add_unwritten()?),
-            Stop::NoPlace(_) | Stop::NoBeginning(_, _) if self.manner.is_person => Ok(
-                self.steps.push_str("The places of the history are told by:\n    reqlock log\n")?,
-            ),
-            Stop::Refused(Refusal::BadTarget) if self.manner.is_person => Ok(
-                self.known.push_str(
-                    "What stands before = is a name: up to 32 of a to z, 0 to 9 and -, a letter first. A path with = in it is given as =PATH.\n",
-                )?,
-            ),
-            // what refuses a line before the edit is made
-            Stop::Refused(refusal) if self.known.is_empty() && self.reasons.is_empty() => {
-                write!(self.known, "{refusal}\n")?;
-                Ok(self.add_named(rt.alloc(), files, refusal)?)
+            Stop::NoPlace(_) | Stop::NoBeginning(_, _) if self.manner.is_person => {
+                self.steps
+                    .push_str("The places of the history are told by:\n")?;
+                self.steps.begin_command()?;
+                Ok(self.steps.push_str("reqlock log\n")?)
             }
-            Stop::Unwritten(_) | Stop::NoPlace(_) | Stop::NoBeginning(_, _) | Stop::Refused(_) =>
-                Ok(()),
+            Stop::Refused(refusal) => Ok(self.add_refused(rt.alloc(), files, refusal)?),
+            Stop::Unwritten(_) | Stop::NoPlace(_) | Stop::NoBeginning(_, _) => Ok(()),
             // what these stop for is told already
             Stop::Usage(_)
             | Stop::Needed(_)
@@ -55,6 +50,28 @@ impl Details {
             | Stop::Uncovered(_)
             | Stop::NoTarget(_)
             | Stop::Fault(_) => Ok(()),
+        }
+    }
+
+    /// What is told of a refusal that no edit came to: of targets, and of what refuses a line before the edit is made.
+    fn add_refused(
+        &mut self,
+        alloc: Global,
+        files: &CallFiles<'_>,
+        refusal: &Refusal,
+    ) -> Result<(), AllocError> {
+        match refusal {
+            Refusal::BadTarget if self.manner.is_person => self.known.push_str(
+                "What stands before = is a name: up to 32 of a to z, 0 to 9 and -, a letter first. A path with = in it is given as =PATH.\n",
+            ),
+            Refusal::DuplicateTarget(name) if name.is_empty() => self.known.push_str(
+                "the target without a name stands twice: of several, each is given as NAME=FILE\n",
+            ),
+            refusal if self.known.is_empty() && self.reasons.is_empty() => {
+                write!(self.known, "{refusal}\n")?;
+                self.add_named(alloc, files, refusal)
+            }
+            _ => Ok(()),
         }
     }
 
@@ -69,10 +86,11 @@ impl Details {
             return Ok(());
         }
         write!(self.known, "{name} is not locked")?;
-        add_near_locked(alloc, &mut self.known, targets, name)?;
+        add_near_locked(alloc, &mut self.known.text, targets, name)?;
         if self.manner.is_person {
-            self.steps
-                .push_str("What is locked is told by:\n    reqlock show\n")?;
+            self.steps.push_str("What is locked is told by:\n")?;
+            self.steps.begin_command()?;
+            self.steps.push_str("reqlock show\n")?;
         }
         self.known.push_str("\n")
     }
@@ -85,7 +103,7 @@ impl Details {
         refusal: &Refusal,
     ) -> Result<(), AllocError> {
         match (files.named, refusal) {
-            (Some(text), Refusal::BadText) => add_named_step(alloc, &mut self.known, text),
+            (Some(text), Refusal::BadText) => add_named_step(alloc, &mut self.known.text, text),
             _ => Ok(()),
         }
     }
@@ -109,14 +127,7 @@ impl Details {
                 Ok(self.add_bad_index(alloc, bytes, is_there)?)
             }
             InputFault::Environment(cause) => {
-                let file = BadEnvironment {
-                    path: path.as_str(),
-                    text: str::from_utf8(bytes).unwrap_or(""),
-                    form: form_of(bytes),
-                    variable: variable_in(*cause),
-                    is_there: is_there(rt, ENVIRONMENT),
-                };
-                Ok(add_environment_note(alloc, &mut self.known, file)?)
+                Ok(self.add_bad_environment(rt, path.as_str(), bytes, *cause)?)
             }
             InputFault::Disagrees => Ok(self.add_disagreement(rt, files, file, bytes)?),
             InputFault::JournalBroken(_) => Ok(self.add_broken_journal(rt, files, bytes)?),
@@ -130,8 +141,25 @@ impl Details {
                     "Each line of a file of pins has one version, as flask==3.0.3; a lock's name ends in .toml.\n",
                 )?,
             ),
-            InputFault::Unreadable | InputFault::OutOfMemory => Ok(()),
+            InputFault::Unreadable(_) | InputFault::OutOfMemory => Ok(()),
         }
+    }
+
+    fn add_bad_environment<R: Files + AllocGlobal>(
+        &mut self,
+        rt: &R,
+        path: &str,
+        bytes: &[u8],
+        cause: Cause,
+    ) -> Result<(), AllocError> {
+        let file = BadEnvironment {
+            path,
+            text: str::from_utf8(bytes).unwrap_or(""),
+            form: form_of(bytes),
+            variable: variable_in(cause),
+            is_there: is_there(rt, ENVIRONMENT),
+        };
+        add_environment_note(rt.alloc(), &mut self.known, file)
     }
 
     fn add_bad_index(
@@ -140,7 +168,7 @@ impl Details {
         bytes: &[u8],
         is_there: bool,
     ) -> Result<(), AllocError> {
-        let mut known = String::new(alloc);
+        let mut known = Notes::new(alloc);
         let plan = IndexPlan {
             is_there,
             ..self.plan()
@@ -153,7 +181,7 @@ impl Details {
     /// All lines that don't read.
     fn add_bad_requirements(&mut self, alloc: Global, bytes: &[u8]) -> Result<(), AllocError> {
         match str::from_utf8(bytes) {
-            Ok(text) => add_bad_lines(alloc, &mut self.known, text),
+            Ok(text) => add_bad_lines(alloc, &mut self.known.text, text),
             Err(_) => {
                 let line = odd_line(bytes);
                 write!(
@@ -179,7 +207,7 @@ impl Details {
         self.begin_fault();
         let file = &link.file;
         write!(self.known, "{file} is a link to ")?;
-        add_plain(&mut self.known, link.place.as_str())?;
+        add_plain(&mut self.known.text, link.path.as_str())?;
         self.known.push_str(
             ", which is none of reqlock's files: remove the link, so that a file is written here\n",
         )
@@ -210,98 +238,6 @@ impl Details {
         }
         self.known.push_str("\n")
     }
-
-    /// The path of a file that can't be read, and the cause that the system tells. No folder has the empty name.
-    fn add_unread<R: Files + AllocGlobal>(
-        &mut self,
-        rt: &R,
-        files: &CallFiles<'_>,
-        file: &InputFile,
-    ) -> Result<(), Stop> {
-        if files.dir.is_empty() {
-            return Ok(
-                self.known.push_str("--dir is empty: give the folder that has requirements.txt\n")?,
-            );
-        }
-        if let InputFile::Pins(_) = file {
-            return Ok(
-                self.known.push_str("A file that --pins names isn't there, or can't be read.\n")?,
-            );
-        }
-        let path = files.path_of(rt.alloc(), file)?;
-        let Err(error) = read_file(rt, file, path.as_str()) else {
-            return Ok(());
-        };
-        if error.kind() == ErrorKind::OutOfMemory {
-            return Err(Stop::from(AllocError));
-        }
-        add_plain(&mut self.known, path.as_str())?;
-        if error.kind() == NO_REGULAR_FILE {
-            return Ok(self.known.push_str(": this is no regular file\n")?);
-        }
-        if error.kind() == TOO_LONG {
-            return Ok(self.known.push_str(": this has too many bytes\n")?);
-        }
-        write!(self.known, ": {error}\n")?;
-        if error.kind() == ErrorKind::NotFound {
-            self.add_absent(rt, files, file, path.as_str())?;
-        }
-        Ok(())
-    }
-
-    /// How a file is made that isn't there.
-    fn add_absent<R: Files + AllocGlobal>(
-        &mut self,
-        rt: &R,
-        files: &CallFiles<'_>,
-        file: &InputFile,
-        path: &str,
-    ) -> Result<(), AllocError> {
-        let alloc = rt.alloc();
-        match file {
-            InputFile::Requirements => self.add_no_requirements(rt, files),
-            InputFile::Lock(_) => self.add_no_lock(rt, files, file),
-            InputFile::Journal => self.add_no_journal(rt, files),
-            InputFile::Index => {
-                let told = if is_address(path) {
-                    "--index takes a file, the snapshot of an index. This makes one:\n"
-                } else {
-                    "This makes it:\n"
-                };
-                let mut known = String::from_str(alloc, told)?;
-                self.plan().add_command(&mut known)?;
-                self.known.push_str(known.as_str())
-            }
-            InputFile::Environment(_) if is_version(path) => write!(
-                self.known,
-                "--env takes a file. This makes one for Python {path}; --platform has the other platforms:\n    reqlock-environment --python {path} --platform linux-x86_64 >environment.json\n"
-            ),
-            InputFile::Environment(_) => {
-                self.known
-                    .push_str("This makes it, of the Python that runs it:\n")?;
-                add_environment_command(alloc, &mut self.known, path)
-            }
-            InputFile::NewRequirements | InputFile::OldRequirements | InputFile::Pins(_) => Ok(()),
-        }
-    }
-
-    /// A project of pip-tools has its requirements in another file.
-    fn add_no_requirements<R: Files + AllocGlobal>(
-        &mut self,
-        rt: &R,
-        files: &CallFiles<'_>,
-    ) -> Result<(), AllocError> {
-        let dir = files.dir;
-        let path = format!(in rt.alloc(); "{dir}/requirements.in")?;
-        if is_there(rt, path.as_str()) {
-            return self.known.push_str(
-                "requirements.in is there: reqlock-adopt takes it over, with the pins of its compiled file\n",
-            );
-        }
-        self.known.push_str(
-            "Write one, with a requirement on each line as flask>=2, or give the folder that has it by --dir\n",
-        )
-    }
 }
 
 impl CallFiles<'_> {
@@ -321,14 +257,6 @@ impl CallFiles<'_> {
             }
         }
     }
-}
-
-/// Whether a version of Python was given in the place of a file.
-fn is_version(path: &str) -> bool {
-    path.starts_with("3.")
-        && path
-            .bytes()
-            .all(|byte| byte.is_ascii_digit() || byte == b'.')
 }
 
 /// The variable that an environment lacks or has wrong.

@@ -16,6 +16,7 @@ mod older_journal_details;
 mod option_details;
 mod refusal_details;
 mod stopped_save_details;
+mod unread_details;
 mod word_details;
 
 pub use crate::change_details::{Changed, Place};

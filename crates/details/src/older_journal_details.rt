@@ -1,6 +1,6 @@
 // What is told where the journal isn't that of the locks: it is gone, or older than they are.
 
-use crate::checkout_details::checkout_of;
+use crate::checkout_details::{checkout_of, progress_in_checkout};
 use crate::details::{CallFiles, Details};
 use crate::fault_details::{bytes_of, is_there};
 use edits::TargetName;
@@ -110,7 +110,7 @@ impl Details {
         locks: &FolderLocks,
     ) -> Result<(), AllocError> {
         self.known.push_str("`reqlock init")?;
-        add_pins(&mut self.known, dir, locks)?;
+        add_pins(&mut self.known.text, dir, locks)?;
         self.known.push_str("` begins a new history with requirements.txt as it stands")?;
         let kept = if locks.names.is_empty() {
             ".\n"
@@ -127,8 +127,8 @@ impl Details {
         files: &CallFiles<'_>,
     ) -> Result<(), AllocError> {
         let checkout = checkout_of(rt, files.dir)?;
-        if self.add_progress(files, checkout)? {
-            return Ok(());
+        if let Some(progress) = progress_in_checkout(checkout) {
+            return self.add_progress(files, checkout, progress);
         }
         let locks = locks_in(rt, files.dir)?;
         if locks.names.is_empty() {
@@ -156,7 +156,8 @@ impl Details {
         if !self.manner.is_person {
             return Ok(());
         }
-        self.steps.push_str("    reqlock")?;
+        self.steps.begin_command()?;
+        self.steps.push_str("reqlock")?;
         self.steps.push_str(self.options.as_str())?;
         if files.index.is_none() {
             self.steps.push_str(" --index index.json")?;
@@ -165,7 +166,7 @@ impl Details {
             self.steps.push_str(" --env environment.json")?;
         }
         self.steps.push_str(" init")?;
-        add_pins(&mut self.steps, files.dir, locks)?;
+        add_pins(&mut self.steps.text, files.dir, locks)?;
         self.steps.push_str("\n")
     }
 }

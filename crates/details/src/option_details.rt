@@ -78,10 +78,11 @@ impl Details {
 
     /// The call with one option more, behind the program's name.
     fn add_call(&mut self, words: &[String], option: &str, value: &str) -> Result<(), AllocError> {
-        write!(self.known, "    reqlock {option} {value}")?;
+        self.known.begin_command()?;
+        write!(self.known, "reqlock {option} {value}")?;
         for (position, word) in words.iter().enumerate() {
             if position > 0 {
-                add_word(&mut self.known, word.as_str())?;
+                add_word(&mut self.known.text, word.as_str())?;
             }
         }
         self.known.push_str("\n")

@@ -14,6 +14,7 @@ use notes::{
     RefusedEdit, add_lacking, add_newest_releases, add_question, add_refusal_details,
     add_refusal_steps,
 };
+use phrases::Notes;
 use resolve::RESOLVER;
 use std::alloc::{AllocError, Global};
 
@@ -69,9 +70,9 @@ impl Details {
         refused: RefusedEdit<'_>,
         pool: &Pool<'_>,
     ) -> Result<(), AllocError> {
-        add_refusal_details(alloc, &mut self.known, refused)?;
+        add_refusal_details(alloc, &mut self.known.text, refused)?;
         if self.manner.is_person {
-            let mut steps = String::new(alloc);
+            let mut steps = Notes::new(alloc);
             add_refusal_steps(alloc, &mut steps, self.options.as_str(), refused)?;
             self.steps = steps;
         }
@@ -86,7 +87,13 @@ impl Details {
         write!(
             self.known,
             "nothing is saved: the command of line {number} was refused first: {refusal}\n"
-        )
+        )?;
+        if *refusal == Refusal::BadCommand {
+            self.known.push_str(
+                "Its commands are add, remove, constrain, upgrade, relock, undo and redo; replace and retarget are calls of their own.\n",
+            )?;
+        }
+        Ok(())
     }
 
     /// What the index lacks of what an edit without a solution asks for.
@@ -131,7 +138,8 @@ impl Details {
         }
         let may_move = pool.only_kept && has_solution(alloc, refused)?;
         if self.manner.is_person {
-            let reasons = reasons_of(alloc, refused, pool)?;
+            let width = self.manner.style.explained_width();
+            let reasons = reasons_of(alloc, refused, pool, width)?;
             if is_told_at_once(reasons.as_str()) {
                 self.add_reasons(reasons);
                 return self.add_moving(may_move);
@@ -141,7 +149,7 @@ impl Details {
         if may_move {
             self.options.push_str(" --keep-locked")?;
         }
-        add_question(&mut self.known, self.options.as_str(), refused.edit)
+        add_question(&mut self.known.text, self.options.as_str(), refused.edit)
     }
 
     fn add_moving(&mut self, may_move: bool) -> Result<(), AllocError> {
@@ -213,7 +221,8 @@ impl Details {
         problems: &[(TargetName, Problem<'_>)],
     ) -> Result<(), AllocError> {
         if self.manner.is_person {
-            let told = told_refutation(alloc, lines.lines(), &Edit::Relock, problems)?;
+            let width = self.manner.style.explained_width();
+            let told = told_refutation(alloc, lines.lines(), &Edit::Relock, problems, width)?;
             if let Some(reasons) = told {
                 if is_told_at_once(reasons.as_str()) {
                     self.add_reasons(reasons);
@@ -235,10 +244,10 @@ impl Details {
     ) -> Result<(), AllocError> {
         let environments = environments_of(alloc, targets)?;
         let environments = environments.as_slice();
-        add_lacking(alloc, &mut self.known, lines, environments, snapshot)?;
+        add_lacking(alloc, &mut self.known.text, lines, environments, snapshot)?;
         if self.manner.is_person {
-            let mut steps = String::new(alloc);
-            add_newest_releases(&mut steps, lines, environments, snapshot)?;
+            let mut steps = Notes::new(alloc);
+            add_newest_releases(&mut steps.text, lines, environments, snapshot)?;
             self.steps = steps;
         }
         Ok(())
@@ -261,11 +270,12 @@ fn is_told_at_once(reasons: &str) -> bool {
     !reasons.is_empty() && reasons.lines().count() <= MOST_LINES
 }
 
-/// The sentences that tell why a refused edit has no solution.
+/// The sentences that tell why a refused edit has no solution, in lines of the width at most.
 fn reasons_of(
     alloc: Global,
     refused: RefusedEdit<'_>,
     pool: &Pool<'_>,
+    width: usize,
 ) -> Result<String, AllocError> {
     let problems = match problem_after(alloc, refused.state, refused.edit, pool) {
         Ok(problems) => problems,
@@ -273,7 +283,7 @@ fn reasons_of(
         Err(_) => return Ok(String::new(alloc)),
     };
     let lines = lines_of(refused.edit, refused.state);
-    match told_refutation(alloc, lines, refused.edit, problems.as_slice())? {
+    match told_refutation(alloc, lines, refused.edit, problems.as_slice(), width)? {
         Some(reasons) => Ok(reasons),
         None => Ok(String::new(alloc)),
     }

@@ -1,6 +1,7 @@
 // What is told of words that are no request: what to type in their place.
 
 use crate::details::Details;
+use command_line::takes_dry_run;
 use notes::with_commas;
 use phrases::add_word;
 use std::alloc::{AllocError, Global};
@@ -23,6 +24,15 @@ struct CutWords<'a> {
     has_json: bool,
 }
 
+/// What does the work of a subcommand of another program.
+#[derive(Clone, Copy)]
+struct OtherCall {
+    told: &'static str,
+    words: &'static str,
+}
+
+const RELOCK: &str = "relock";
+
 impl Details {
     /// Notes what is meant by words that are no request, where that is known.
     pub fn add_misused(&mut self, alloc: Global, words: &[String]) -> Result<(), AllocError> {
@@ -30,50 +40,84 @@ impl Details {
             return Ok(());
         }
         let cut = cut(alloc, words)?;
+        if let Some(call) = other_call(cut.subcommand) {
+            return self.add_other_call(&cut, call);
+        }
         match cut.subcommand {
             subcommand if is_installing(subcommand) => self.add_installing(&cut),
+            subcommand if is_of_environments(subcommand) => self.add_environments(&cut),
             "add" | "remove" if cut.texts.len() > 1 => self.add_calls(alloc, &cut),
             "undo" | "redo" if !cut.texts.is_empty() => self.add_one_step(&cut),
             "upgrade" if cut.has_all => self.add_whole_upgrade(&cut),
             "check" if cut.has_fix => self.add_checking(&cut),
             "export" => self.add_form(&cut, words),
-            "init"
-            | "add"
-            | "remove"
-            | "constrain"
-            | "upgrade"
-            | "relock"
-            | "replace"
-            | "retarget"
-            | "undo"
-            | "redo"
-            | "forget"
-                if cut.has_json => { self.add_json(&cut) }
+            subcommand if cut.has_json && takes_dry_run(subcommand) => self.add_json(&cut),
             _ => Ok(()),
         }
     }
 
     /// Whether the words are those of another program's subcommand, of which the names that are near to it would lead astray.
     pub fn is_led_astray(&self, alloc: Global, words: &[String]) -> Result<bool, AllocError> {
-        Ok(self.manner.tells && is_installing(cut(alloc, words)?.subcommand))
+        if !self.manner.tells {
+            return Ok(false);
+        }
+        let subcommand = cut(alloc, words)?.subcommand;
+        Ok(
+            is_installing(subcommand)
+                || is_of_environments(subcommand)
+                || other_call(subcommand).is_some(),
+        )
+    }
+
+    fn add_other_call(&mut self, cut: &CutWords<'_>, call: OtherCall) -> Result<(), AllocError> {
+        let OtherCall { told, words } = call;
+        let options = if words == RELOCK {
+            cut.options.as_str()
+        } else {
+            cut.folder.as_str()
+        };
+        write!(self.known, "{told}\n")?;
+        self.known.begin_command()?;
+        write!(self.known, "reqlock{options} {words}\n")
+    }
+
+    fn add_environments(&mut self, cut: &CutWords<'_>) -> Result<(), AllocError> {
+        let options = cut.options.as_str();
+        self.known.push_str(
+            "An environment is a file. This makes one, and retarget locks for it in the place of the present ones:\n",
+        )?;
+        self.known.begin_command()?;
+        self.known.push_str(
+            "reqlock-environment --python 3.12 --platform linux-x86_64 >environment.json\n",
+        )?;
+        self.known.begin_command()?;
+        write!(
+            self.known,
+            "reqlock{options} retarget --env environment.json\n"
+        )
     }
 
     fn add_installing(&mut self, cut: &CutWords<'_>) -> Result<(), AllocError> {
         let folder = cut.folder.as_str();
-        write!(
-            self.known,
-            "reqlock installs nothing: `rql sync` does, in a project that `rql init` began. Else pip installs what is locked:\n    reqlock{folder} export >locked.txt\n    python3 -m pip install --require-hashes --no-deps --requirement locked.txt\n"
+        self.known.push_str(
+            "reqlock installs nothing: `rql sync` does, in a project that `rql init` began. Else pip installs what is locked:\n",
+        )?;
+        self.known.begin_command()?;
+        write!(self.known, "reqlock{folder} export >locked.txt\n")?;
+        self.known.begin_command()?;
+        self.known.push_str(
+            "python3 -m pip install --require-hashes --no-deps --requirement locked.txt\n",
         )
     }
 
     fn add_calls(&mut self, alloc: Global, cut: &CutWords<'_>) -> Result<(), AllocError> {
         let (subcommand, options) = (cut.subcommand, cut.options.as_str());
         if let Some(line) = whole_line(alloc, cut)? {
-            write!(
-                self.known,
-                "add takes one line, which is one word in quotes:\n    reqlock{options} add"
-            )?;
-            add_word(&mut self.known, line.as_str())?;
+            self.known
+                .push_str("add takes one line, which is one word in quotes:\n")?;
+            self.known.begin_command()?;
+            write!(self.known, "reqlock{options} add")?;
+            add_word(&mut self.known.text, line.as_str())?;
             return self.known.push_str("\n");
         }
         let noun = if subcommand == "add" { "line" } else { "name" };
@@ -82,8 +126,9 @@ impl Details {
             "{subcommand} takes one {noun}. Each has a call of its own:\n"
         )?;
         for text in cut.texts.as_slice().iter().take(MOST) {
-            write!(self.known, "    reqlock{options} {subcommand}")?;
-            add_word(&mut self.known, text)?;
+            self.known.begin_command()?;
+            write!(self.known, "reqlock{options} {subcommand}")?;
+            add_word(&mut self.known.text, text)?;
             self.known.push_str("\n")?;
         }
         Ok(())
@@ -94,24 +139,29 @@ impl Details {
         let folder = cut.folder.as_str();
         write!(
             self.known,
-            "{subcommand} is for one step: call it once for each. The steps are told by log:\n    reqlock{folder} log\n    reqlock{options} {subcommand}\n"
-        )
+            "{subcommand} is for one step: call it once for each. The steps are told by log:\n"
+        )?;
+        self.known.begin_command()?;
+        write!(self.known, "reqlock{folder} log\n")?;
+        self.known.begin_command()?;
+        write!(self.known, "reqlock{options} {subcommand}\n")
     }
 
     fn add_whole_upgrade(&mut self, cut: &CutWords<'_>) -> Result<(), AllocError> {
         let options = cut.options.as_str();
-        write!(
-            self.known,
-            "Without names upgrade is for all that is locked:\n    reqlock{options} upgrade\n"
-        )
+        self.known
+            .push_str("Without names upgrade is for all that is locked:\n")?;
+        self.known.begin_command()?;
+        write!(self.known, "reqlock{options} upgrade\n")
     }
 
     fn add_checking(&mut self, cut: &CutWords<'_>) -> Result<(), AllocError> {
         let folder = cut.folder.as_str();
-        write!(
-            self.known,
-            "check changes nothing. What is wrong, and what mends it, is told by:\n    reqlock{folder} check -v\n"
-        )
+        self.known.push_str(
+            "check changes nothing. What is wrong, and what mends it, is told by:\n",
+        )?;
+        self.known.begin_command()?;
+        write!(self.known, "reqlock{folder} check -v\n")
     }
 
     /// A form of an export that other programs name otherwise.
@@ -120,18 +170,18 @@ impl Details {
         if !words.iter().any(|word| is_requirements_form(word.as_str())) {
             return Ok(());
         }
-        write!(
-            self.known,
-            "Lines of a requirements file, with hashes, are the form hashes:\n    reqlock{folder} export --format hashes\n"
-        )
+        self.known.push_str("Lines of a requirements file, with hashes, are the form hashes:\n")?;
+        self.known.begin_command()?;
+        write!(self.known, "reqlock{folder} export --format hashes\n")
     }
 
     fn add_json(&mut self, cut: &CutWords<'_>) -> Result<(), AllocError> {
         let folder = cut.folder.as_str();
-        write!(
-            self.known,
-            "show, log, diff, check and outdated print JSON. What the last step changed, once it is saved, is told by:\n    reqlock{folder} diff --json\n"
-        )
+        self.known.push_str(
+            "show, log, diff, check and outdated print JSON. What the last step changed, once it is saved, is told by:\n",
+        )?;
+        self.known.begin_command()?;
+        write!(self.known, "reqlock{folder} diff --json\n")
     }
 }
 
@@ -161,6 +211,28 @@ fn is_sign(letter: char) -> bool {
 
 fn is_installing(subcommand: &str) -> bool {
     matches!(subcommand, "install" | "sync")
+}
+
+fn is_of_environments(subcommand: &str) -> bool {
+    matches!(subcommand, "env" | "environment" | "python" | "venv")
+}
+
+fn other_call(subcommand: &str) -> Option<OtherCall> {
+    match subcommand {
+        "lock" | "compile" => Some(OtherCall {
+            told: "relock makes the lock again, and init makes the first one:",
+            words: RELOCK,
+        }),
+        "tree" => Some(OtherCall {
+            told: "show prints the lock as a tree:",
+            words: "show --tree",
+        }),
+        "list" | "freeze" => Some(OtherCall {
+            told: "show prints what is locked:",
+            words: "show",
+        }),
+        _ => None,
+    }
 }
 
 fn is_requirements_form(word: &str) -> bool {

@@ -1,5 +1,5 @@
 -- What the errors of the system mean for the files of a call. All of it is reqlock's own rule.
-use Rattle.std.specs.Prelude.{Bool, true, false, Option, None, Result, Ok, Err}
+use Rattle.std.specs.Prelude.{◌≡◌, ℕ, Bool, true, false, List, Option, None, Result, Ok, Err}
 use Rattle.std.specs.IoError.{error_kind}
 use Rattle.std.specs.declared.io.Error.{Error}
 use Rattle.std.specs.declared.io.ErrorKind.{ErrorKind}
@@ -8,6 +8,7 @@ use Rattle.inputs.specs.declared.fault.Fault.{Fault}
 use Rattle.inputs.specs.declared.fault.Fault.TheVariants.{Input, Unwritten, OutOfMemory}
 use Rattle.inputs.specs.declared.input_files.InputFault.TheVariants.{Unreadable}
 use Rattle.inputs.specs.declared.input_files.InputFile.{InputFile}
+use Rattle.inputs.specs.declared.unread.Unread.TheVariants.{At}
 
 -- want of memory, or else this fault
 abbrev pub unless_memory : ErrorKind → Fault → Fault
@@ -18,10 +19,14 @@ unless_memory kind fault = fault
 abbrev pub unwritten_by : InputFile → Error → Fault
 unwritten_by file error = unless_memory (error_kind error) (Unwritten file)
 
--- the bytes that were read of a file, or why it can't be read
-abbrev pub read_as : {A : Type 0} → InputFile → Result A Error → Result A Fault
-read_as file (Ok bytes) = Ok bytes
-read_as file (Err error) = Err (unless_memory (error_kind error) (Input file Unreadable))
+-- the bytes that were read of a file at a path, or why it can't be read
+abbrev pub read_as : {A : Type 0} → InputFile → List ℕ → Result A Error → Result A Fault
+read_as file path (Ok bytes) = Ok bytes
+read_as file path (Err error) = Err (unless_memory (error_kind error) (Input file (Unreadable (At path error))))
+
+-- the file can't be read, by some error at the path
+abbrev pub IsUnreadAt : InputFile → List ℕ → Fault → Type 0
+IsUnreadAt file path fault = (error : Error) × (fault ≡ Input file (Unreadable (At path error)))
 
 -- nothing, where an error is passed over; only want of memory isn't
 abbrev pub nothing_unless_memory : {A : Type 0} → ErrorKind → Result (Option A) Fault

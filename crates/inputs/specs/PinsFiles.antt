@@ -14,6 +14,7 @@ use Rattle.inputs.specs.declared.input_files.InputFault.{InputFault}
 use Rattle.inputs.specs.declared.input_files.InputFault.TheVariants as inputs
 use Rattle.inputs.specs.declared.pins_files.PinsFile.{PinsFile}
 use Rattle.inputs.specs.declared.pins_files.LentTarget.{LentTarget}
+use Rattle.inputs.specs.declared.unread.Unread.TheVariants.{ManyDots}
 
 -- what was read, or its fault as that of an input
 abbrev pub as_pins : Result PinFile PinFault → Result PinFile InputFault
@@ -33,7 +34,7 @@ has_many_dots bytes = nat_lt 1000 (count_dots bytes) && nat_lt (length bytes / 8
 
 -- the file of pins that bytes are, a lock or a requirements file; a lock that is mostly dotted keys isn't read
 abbrev pub pin_file_in : Bool → List ℕ → Result PinFile InputFault
-pin_file_in is_lock bytes = if is_lock then (if has_many_dots bytes then Err inputs.Unreadable else as_pins (locked_pins bytes)) else as_pins (written_pins bytes)
+pin_file_in is_lock bytes = if is_lock then (if has_many_dots bytes then Err (inputs.Unreadable ManyDots) else as_pins (locked_pins bytes)) else as_pins (written_pins bytes)
 
 -- whether one of the files is for a target alone
 abbrev pub has_own : List PinsFile → List ℕ → Bool

@@ -2,6 +2,8 @@
 
 use crate::fault::Fault;
 use crate::input_files::{InputFault, InputFile, read_as, read_bounded, read_bytes};
+use crate::unread::Unread;
+use lists::Text;
 use std::alloc::Global;
 use std::io::Read;
 use std::rt::Files;
@@ -32,12 +34,13 @@ impl<'a, R: Files + AllocGlobal, I: Read + Drop> HandedIn<'a, R, I> {
         if path != "-" {
             return read_bytes(self.rt, file, path);
         }
+        let place = Text::copy_of(self.rt.alloc(), path)?;
         match self.input.take() {
             Some(input) => {
                 let read = read_bounded(self.rt.alloc(), &file, input);
-                read_as(file, read)
+                read_as(file, place, read)
             }
-            None => Err(Fault::Input(file, InputFault::Unreadable)),
+            None => Err(Fault::Input(file, InputFault::Unreadable(Unread::InputTaken))),
         }
     }
 }

@@ -3,13 +3,14 @@
 ghost use Rattle.std.specs.Fmt.{DisplaysOnOk};
 ghost use Rattle.std.specs.Prelude.{◌≡◌, ◌⊎◌, IfErr, IfOk, Some, string_bytes};
 ghost use Rattle.lists.specs.Answers.{Answers};
-ghost use Rattle.inputs.specs.Errors.{read_as};
+ghost use Rattle.inputs.specs.Errors.{IsUnreadAt, read_as};
 ghost use Rattle.inputs.specs.FileNames.{name_of, named, path_of};
 ghost use Rattle.inputs.specs.Inputs.{environment_in, index_in, requirements_in};
 ghost use Rattle.inputs.specs.declared.fault.Fault.TheVariants as faults;
 ghost use Rattle.inputs.specs.declared.input_files.InputFault.TheVariants.{OutOfMemory};
 
 use crate::fault::Fault;
+use crate::unread::Unread;
 use edits::TargetName;
 use lists::Text;
 use pep508::{Cause, Environment, Fault as LineFault, ReqFile};
@@ -115,7 +116,7 @@ pub fn path_of(alloc: Global, dir: &str, file: &InputFile) -> Result<String, All
 #[derive(Debug, Drop)]
 pub enum InputFault {
     /// The file could not be read.
-    Unreadable,
+    Unreadable(Unread),
     /// The requirements file is refused. The line is 0 where the fault is of no line.
     Requirements(LineFault),
     /// The index is refused.
@@ -148,21 +149,25 @@ pub fn read_bytes<R: Files + AllocGlobal>(
     path: &str,
 ) -> Result<Vec<u8>, Fault>
     ensures { IfErr result (λ fault. (fault ≡ faults.OutOfMemory)
-        ⊎ (fault ≡ faults.Input file InputFault.Unreadable)) }
+        ⊎ (IsUnreadAt file path.now fault)) }
 {
+    let place = Text::copy_of(rt.alloc(), path)?;
     let read = read_file(rt, &file, path);
-    read_as(file, read)
+    read_as(file, place, read)
 }
 
-/// What was read of a file, or why it can't be read.
-pub fn read_as<T>(file: InputFile, read: io::Result<T>) -> Result<T, Fault>
-    ensures { result ≡ read_as file read }
+/// What was read of a file at this path, or why it can't be read.
+pub fn read_as<T>(file: InputFile, path: Text, read: io::Result<T>) -> Result<T, Fault>
+    ensures { result ≡ read_as file path read }
 {
     match read {
         Ok(bytes) => Ok(bytes),
         Err(error) => match error.kind() {
             ErrorKind::OutOfMemory => Err(Fault::OutOfMemory),
-            _ => Err(Fault::Input(file, InputFault::Unreadable)),
+            _ => {
+                let unread = Unread::At(path, error);
+                Err(Fault::Input(file, InputFault::Unreadable(unread)))
+            }
         },
     }
 }

@@ -24,6 +24,7 @@ mod pin_file;
 mod pinned_version;
 pub mod pins_files;
 pub mod target_files;
+mod unread;
 
 pub use crate::fault::{Fault, in_file, passed_over, unwritten};
 pub use crate::folder_lock::{LockFile, lock_to_read, lock_to_save, sync_folder};
@@ -34,3 +35,4 @@ pub use crate::input_files::{
 pub use crate::link_out::LinkOut;
 pub use crate::pin_fault::PinFault;
 pub use crate::pin_file::PinFile;
+pub use crate::unread::Unread;

@@ -7,5 +7,5 @@ use crate::input_files::InputFile;
 pub struct LinkOut {
     pub file: InputFile,
     /// Where it leads.
-    pub place: String,
+    pub path: String,
 }

@@ -13,6 +13,7 @@ use crate::named_file::{NamedBytes, NamedPath};
 use crate::pin_fault::PinFault;
 use crate::pin_file::PinFile;
 use crate::target_files::parts_of;
+use crate::unread::Unread;
 use edits::{Environment, Name, TargetName, TargetPins};
 use lists::{Seq, Text};
 use pep440::Version;
@@ -88,7 +89,7 @@ pub fn read_pin_file(alloc: Global, is_lock: bool, bytes: &[u8]) -> Result<PinFi
     ensures { Answers OutOfMemory (spec.pin_file_in is_lock bytes.now) result }
 {
     if is_lock && has_many_dots(bytes) {
-        return Err(InputFault::Unreadable);
+        return Err(InputFault::Unreadable(Unread::ManyDots));
     }
     if is_lock {
         as_input(PinFile::read_lock(alloc, bytes))

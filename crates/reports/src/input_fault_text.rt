@@ -17,7 +17,7 @@ pub struct InputFaultText<'a> {
 impl fmt::Display for InputFaultText<'_> {
     fn fmt<W: fmt::Write>(&self, f: &mut fmt::Formatter<W>) -> fmt::Result {
         match self.fault {
-            InputFault::Unreadable => write!(f, "unreadable"),
+            InputFault::Unreadable(_) => write!(f, "unreadable"),
             InputFault::Requirements(fault) => write_line_fault(f, *fault),
             InputFault::Index(fault) => write_index_fault(f, fault),
             InputFault::Environment(cause) => write_cause(f, *cause),
