@@ -1,3 +1,4 @@
+pub mod AskedEdits
 pub mod Replaces
 pub mod Retargets
 pub mod Stops

@@ -27,5 +27,5 @@ pub fn difference_between(
     if to > last {
         return Err(Stop::NoPlace(to));
     }
-    Ok(session.change_between(alloc, from, to)?)
+    Ok(session.difference_between(alloc, from, to)?)
 }

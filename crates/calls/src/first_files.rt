@@ -1,6 +1,6 @@
 // The files that a first lock is made of.
 
-use command_line::request::Inputs;
+use command_line::request::InitOptions;
 use files::first_inputs::FirstPaths;
 use inputs::pins_files::pins_paths;
 use inputs::target_files::TargetPath;
@@ -10,12 +10,12 @@ use stops::Stop;
 /// Where the files stand that a first lock is made of.
 pub fn first_paths<'a>(
     alloc: Global,
-    inputs: &Inputs<'a>,
+    options: &InitOptions<'a>,
     targets: Vec<TargetPath>,
 ) -> Result<FirstPaths<'a>, Stop> {
-    let pins = pins_paths(alloc, inputs.pins.as_slice())?;
+    let pins = pins_paths(alloc, options.pins.as_slice())?;
     Ok(FirstPaths {
-        index: inputs.index,
+        index: options.index,
         targets,
         pins,
     })

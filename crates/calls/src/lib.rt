@@ -4,6 +4,7 @@
 //! A subcommand is given a `Call` and prints to its output.
 #![tactic(auto)]
 
+mod asked_edits;
 mod call;
 mod difference;
 mod first_files;
@@ -13,10 +14,9 @@ mod replacement;
 mod retargeting;
 pub mod subcommand_files;
 
+pub use crate::asked_edits::{asked_edit, asked_edit_to_save};
 pub use crate::call::Call;
 pub use crate::difference::difference_between;
 pub use crate::first_files::first_paths;
 pub use crate::pool::pool_of;
-pub use crate::read_edit::ReadEdit;
-pub use crate::replacement::{replaced, replaced_to_save};
-pub use crate::retargeting::{NewTargetPaths, new_target_paths, retargeted, retargeted_to_save};
+pub use crate::read_edit::{ReadEdit, UnsavedEdit};

@@ -5,10 +5,9 @@ ghost use Rattle.calls.specs.Replaces.{IsReplacement};
 ghost use Rattle.inputs.specs.PinsFiles.{ArePinsFor, given_by, without_lock};
 
 use crate::read_edit::ReadEdit;
-use command_line::request::{EditInputs, NewLines, Replacement};
+use command_line::request::{EditOptions, NewLines, Replacement};
 use edits::{Edit, Refusal, ReqFile, Target, TargetPins, with_line_exchanged};
 use files::SavedFiles;
-use files::hand_changed::open_hand_changed;
 use files::saved_history::{SavedHistory, saved_files};
 use inputs::handed_in::HandedIn;
 use inputs::named_file::NamedBytes;
@@ -34,30 +33,30 @@ enum LinesRead<'a> {
 
 /// Reads what a replacement needs, to save a history in the place of the one that it is made in. A save that was
 /// stopped is ended first. All files are read before a fault in one of them is told.
-pub fn replaced_to_save<R: Files + AllocGlobal, I: Read + Drop>(
+pub(crate) fn replaced_to_save<R: Files + AllocGlobal, I: Read + Drop>(
     rt: &R,
     dir: &str,
     replacement: &Replacement<'_>,
-    inputs: EditInputs<'_>,
+    options: EditOptions<'_>,
     input: I,
 ) -> Result<ReadEdit, Stop>
     ensures { IfOk result (λ read. IsReplacement read.history.session read.edit) }
 {
     let files = SavedFiles::read_to_save(rt, dir)?;
-    let read = read_handed(rt, replacement, inputs, input)?;
+    let read = read_handed(rt, replacement, options, input)?;
     let (files, session) = match &read.lines {
-        LinesRead::Old(old) => open_hand_changed(rt, dir, files, old.as_slice())?,
+        LinesRead::Old(old) => files.open_hand_changed(rt, dir, old.as_slice())?,
         LinesRead::New(_) | LinesRead::Line(_, _) => files.open_to_save(rt, dir)?,
     };
     made_of(rt.alloc(), files, session, read)
 }
 
 /// The same, where nothing is to be saved: the files are read as they stand.
-pub fn replaced<R: Files + AllocGlobal, I: Read + Drop>(
+pub(crate) fn replaced<R: Files + AllocGlobal, I: Read + Drop>(
     rt: &R,
     dir: &str,
     replacement: &Replacement<'_>,
-    inputs: EditInputs<'_>,
+    options: EditOptions<'_>,
     input: I,
 ) -> Result<ReadEdit, Stop>
 where
@@ -66,7 +65,7 @@ where
 {
     let alloc = rt.alloc();
     let files = saved_files(rt, dir)?;
-    let read = read_handed(rt, replacement, inputs, input)?;
+    let read = read_handed(rt, replacement, options, input)?;
     let session = match &read.lines {
         LinesRead::Old(old) => files.open_with(alloc, old.as_slice())?,
         LinesRead::New(_) | LinesRead::Line(_, _) => files.open(alloc)?,
@@ -85,10 +84,10 @@ struct HandedRead<'a> {
 fn read_handed<'a, R: Files + AllocGlobal, I: Read + Drop>(
     rt: &R,
     replacement: &Replacement<'a>,
-    inputs: EditInputs<'_>,
+    options: EditOptions<'_>,
     input: I,
 ) -> Result<HandedRead<'a>, Fault> {
-    let index = read_bytes(rt, InputFile::Index, inputs.index)?;
+    let index = read_bytes(rt, InputFile::Index, options.index)?;
     let paths = pins_paths(rt.alloc(), replacement.pins.as_slice())?;
     let mut handed_in = HandedIn::new(rt, input);
     let lines = match replacement.lines {

@@ -6,7 +6,7 @@ ghost use Rattle.files.specs.Beside.{StandFor};
 ghost use Rattle.inputs.specs.TargetFiles.{names_of, names_read};
 
 use crate::read_edit::ReadEdit;
-use command_line::request::{EditInputs, NewTargets};
+use command_line::request::{EditOptions, NewTargets};
 use edits::{Edit, FirstTargets, TargetName};
 use files::SavedFiles;
 use files::first_inputs::targets_with_pins;
@@ -25,14 +25,14 @@ use stops::Stop;
 
 /// Where the files stand of the targets that take the place of the present ones.
 #[derive(Drop)]
-pub struct NewTargetPaths {
+pub(crate) struct NewTargetPaths {
     pub targets: Vec<TargetPath>,
     /// The pins that count for new ones.
     pub pins: Vec<NamedPath<Text>>,
 }
 
 /// The targets, and where the pins stand that are given with them.
-pub fn new_target_paths(
+pub(crate) fn new_target_paths(
     alloc: Global,
     given: &NewTargets,
     targets: Vec<TargetPath>,
@@ -45,28 +45,28 @@ pub fn new_target_paths(
 
 /// Reads what a retarget needs, to save a history in the place of the one that it is made in. A save that was stopped is
 /// ended first. All files are read before a fault in one of them is told.
-pub fn retargeted_to_save<R: Files + AllocGlobal, I: Read + Drop>(
+pub(crate) fn retargeted_to_save<R: Files + AllocGlobal, I: Read + Drop>(
     rt: &R,
     dir: &str,
     paths: NewTargetPaths,
-    inputs: EditInputs<'_>,
+    options: EditOptions<'_>,
     input: I,
 ) -> Result<ReadEdit, Stop>
     ensures history { IfOk result (λ read. StandFor read.history.files read.history.session) }
     ensures edit { IfOk result (λ read. LeadsToNamed paths.targets.items read.edit) }
 {
     let files = SavedFiles::read_to_save(rt, dir)?;
-    let read = read_handed(rt, paths, inputs, input)?;
+    let read = read_handed(rt, paths, options, input)?;
     let (files, session) = files.open_to_save(rt, dir)?;
     Ok(made_of(rt.alloc(), files, session, read)?)
 }
 
 /// The same, where nothing is to be saved: the files are read as they stand.
-pub fn retargeted<R: Files + AllocGlobal, I: Read + Drop>(
+pub(crate) fn retargeted<R: Files + AllocGlobal, I: Read + Drop>(
     rt: &R,
     dir: &str,
     paths: NewTargetPaths,
-    inputs: EditInputs<'_>,
+    options: EditOptions<'_>,
     input: I,
 ) -> Result<ReadEdit, Stop>
 where
@@ -75,7 +75,7 @@ where
     ensures edit { IfOk result (λ read. LeadsToNamed paths.targets.items read.edit) }
 {
     let files = saved_files(rt, dir)?;
-    let read = read_handed(rt, paths, inputs, input)?;
+    let read = read_handed(rt, paths, options, input)?;
     let session = files.open(rt.alloc())?;
     Ok(made_of(rt.alloc(), files, session, read)?)
 }
@@ -91,14 +91,14 @@ struct HandedRead {
 fn read_handed<R: Files + AllocGlobal, I: Read + Drop>(
     rt: &R,
     paths: NewTargetPaths,
-    inputs: EditInputs<'_>,
+    options: EditOptions<'_>,
     input: I,
 ) -> Result<HandedRead, Fault>
     ensures { IfOk result
         (λ read. names_read read.environments.items ≡ names_of paths.targets.items) }
 {
     let NewTargetPaths { targets, pins } = paths;
-    let index = read_bytes(rt, InputFile::Index, inputs.index)?;
+    let index = read_bytes(rt, InputFile::Index, options.index)?;
     let environments = read_all(rt, targets)?;
     let pins = read_pins(&mut HandedIn::new(rt, input), pins)?;
     Ok(HandedRead {

@@ -3,8 +3,8 @@
 ghost use Rattle.std.specs.Prelude.{◌≡◌, ◌≢◌, ◌⊎◌, [], IfErr, OnOk, true};
 ghost use Rattle.calls.specs.SubcommandFiles.{StopsForNoFolder, environments_of, file_of, index_of, is_old, new_lines_of, reads_no_folder};
 
-use command_line::request::{NewLines, Question, Saving, Shown, Subcommand};
-use inputs::{InputFault, InputFile, LockFile, lock_to_save};
+use command_line::request::{AskedEdit, NewLines, Question, Saving, Shown, Subcommand};
+use inputs::{InputFault, InputFile, LockFile, Unread, lock_to_save};
 use lists::Text;
 use std::rt::Files;
 use stops::Stop;
@@ -14,19 +14,12 @@ pub fn index_of<'a>(subcommand: &Subcommand<'a>) -> Option<&'a str>
     ensures { result ≡ index_of subcommand.now }
 {
     match subcommand {
-        Subcommand::Init(inputs, _)
-        | Subcommand::Try(inputs)
-        | Subcommand::Why(Question::Init(inputs, _), _) => Some(inputs.index),
-        Subcommand::Edit(_, inputs, _)
-        | Subcommand::Replace(_, inputs, _)
-        | Subcommand::Retarget(_, inputs, _)
-        | Subcommand::Batch(inputs, _)
-        | Subcommand::Why(
-            Question::Edit(_, inputs)
-            | Question::Replace(_, inputs)
-            | Question::Retarget(_, inputs),
-            _,
-        ) => Some(inputs.index),
+        Subcommand::Init(options, _)
+        | Subcommand::Try(options)
+        | Subcommand::Why(Question::Init(options, _), _) => Some(options.index),
+        Subcommand::Edit(_, options, _)
+        | Subcommand::Batch { options, .. }
+        | Subcommand::Why(Question::Edit(_, options), _) => Some(options.index),
         Subcommand::Outdated(index, _)
         | Subcommand::Skipped(index)
         | Subcommand::Why(Question::Release(_, index), _) => Some(*index),
@@ -36,7 +29,7 @@ pub fn index_of<'a>(subcommand: &Subcommand<'a>) -> Option<&'a str>
         | Subcommand::Redo(_)
         | Subcommand::Forget(_, _)
         | Subcommand::Show(Shown::Table | Shown::Tree, _)
-        | Subcommand::Log(_, _)
+        | Subcommand::Log { .. }
         | Subcommand::Diff(_, _) => None,
     }
 }
@@ -75,8 +68,10 @@ fn new_lines_of<'a>(subcommand: &Subcommand<'a>) -> Option<NewLines<'a>>
     ensures { result ≡ new_lines_of subcommand.now }
 {
     match subcommand {
-        Subcommand::Replace(replacement, _, _)
-        | Subcommand::Why(Question::Replace(replacement, _), _) => Some(replacement.lines),
+        Subcommand::Edit(AskedEdit::Replace(replacement), _, _)
+        | Subcommand::Why(Question::Edit(AskedEdit::Replace(replacement), _), _) => {
+            Some(replacement.lines)
+        }
         _ => None,
     }
 }
@@ -86,26 +81,28 @@ pub fn environments_of<'a>(subcommand: &'a Subcommand<'_>) -> &'a [Text]
     ensures { result.now ≡ environments_of subcommand.now }
 {
     match subcommand {
-        Subcommand::Init(inputs, _)
-        | Subcommand::Try(inputs)
-        | Subcommand::Why(Question::Init(inputs, _), _) => inputs.environments.as_slice(),
-        Subcommand::Retarget(targets, _, _) | Subcommand::Why(Question::Retarget(targets, _), _) =>
-            targets.environments.as_slice(),
-        Subcommand::Edit(_, _, _)
-        | Subcommand::Replace(_, _, _)
+        Subcommand::Init(options, _)
+        | Subcommand::Try(options)
+        | Subcommand::Why(Question::Init(options, _), _) => options.environments.as_slice(),
+        Subcommand::Edit(AskedEdit::Retarget(targets), _, _)
+        | Subcommand::Why(Question::Edit(AskedEdit::Retarget(targets), _), _) => {
+            targets.environments.as_slice()
+        }
+        Subcommand::Edit(AskedEdit::Typed(_) | AskedEdit::Replace(_), _, _)
         | Subcommand::Undo(_)
         | Subcommand::Redo(_)
         | Subcommand::Forget(_, _)
-        | Subcommand::Batch(_, _)
+        | Subcommand::Batch { .. }
         | Subcommand::Show(_, _)
-        | Subcommand::Log(_, _)
+        | Subcommand::Log { .. }
         | Subcommand::Diff(_, _)
         | Subcommand::Check(_, _)
         | Subcommand::Outdated(_, _)
         | Subcommand::Export(_)
         | Subcommand::Skipped(_)
         | Subcommand::Why(
-            Question::Edit(_, _) | Question::Replace(_, _) | Question::Release(_, _),
+            Question::Edit(AskedEdit::Typed(_) | AskedEdit::Replace(_), _)
+            | Question::Release(_, _),
             _,
         ) => &[],
     }
@@ -119,7 +116,10 @@ pub fn refuse_no_folder(dir: &str, subcommand: &Subcommand<'_>) -> Result<(), St
 {
     match subcommand {
         Subcommand::Skipped(_) => Ok(()),
-        _ if dir.is_empty() => Err(Stop::Input(InputFile::Requirements, InputFault::Unreadable)),
+        _ if dir.is_empty() => {
+            let fault = InputFault::Unreadable(Unread::NoFolder);
+            Err(Stop::Input(InputFile::Requirements, fault))
+        }
         _ => Ok(()),
     }
 }
@@ -136,22 +136,18 @@ where
     match subcommand {
         Subcommand::Init(_, Saving::Save)
         | Subcommand::Edit(_, _, Saving::Save)
-        | Subcommand::Replace(_, _, Saving::Save)
-        | Subcommand::Retarget(_, _, Saving::Save)
         | Subcommand::Undo(Saving::Save)
         | Subcommand::Redo(Saving::Save)
         | Subcommand::Forget(_, Saving::Save)
-        | Subcommand::Batch(_, _) => Ok(lock_to_save(rt, dir)?),
+        | Subcommand::Batch { .. } => Ok(lock_to_save(rt, dir)?),
         Subcommand::Init(_, Saving::DryRun)
         | Subcommand::Edit(_, _, Saving::DryRun)
-        | Subcommand::Replace(_, _, Saving::DryRun)
-        | Subcommand::Retarget(_, _, Saving::DryRun)
         | Subcommand::Undo(Saving::DryRun)
         | Subcommand::Redo(Saving::DryRun)
         | Subcommand::Forget(_, Saving::DryRun)
         | Subcommand::Try(_)
         | Subcommand::Show(_, _)
-        | Subcommand::Log(_, _)
+        | Subcommand::Log { .. }
         | Subcommand::Diff(_, _)
         | Subcommand::Check(_, _)
         | Subcommand::Outdated(_, _)

@@ -10,7 +10,6 @@
 
 pub mod first_inputs;
 mod going_locks;
-pub mod hand_changed;
 pub mod held;
 mod links_out;
 mod rewrite;

@@ -36,20 +36,20 @@ fn link_of<R: Files + AllocGlobal>(
     file: InputFile,
 ) -> Result<Option<LinkOut>, Fault> {
     let path = path_of(rt.alloc(), dir, &file)?;
-    match place_behind(rt, path.as_str()) {
+    match path_behind(rt, path.as_str()) {
         Ok(None) => Ok(None),
-        Ok(Some(place)) => {
-            if is_ours(rt, file.clone()?, place.as_str())? {
+        Ok(Some(path)) => {
+            if is_ours(rt, file.clone()?, path.as_str())? {
                 return Ok(None);
             }
-            Ok(Some(LinkOut { file, place }))
+            Ok(Some(LinkOut { file, path }))
         }
         Err(error) => passed_over(&error),
     }
 }
 
 /// Where a link leads; nothing where the path is none.
-fn place_behind<R: Files + AllocGlobal>(rt: &R, path: &str) -> io::Result<Option<String>> {
+fn path_behind<R: Files + AllocGlobal>(rt: &R, path: &str) -> io::Result<Option<String>> {
     if !fs::symlink_metadata(rt, path)?.is_symlink() {
         return Ok(None);
     }
@@ -57,9 +57,9 @@ fn place_behind<R: Files + AllocGlobal>(rt: &R, path: &str) -> io::Result<Option
 }
 
 /// Whether a file is a lock or a journal that reqlock wrote.
-fn is_ours<R: Files + AllocGlobal>(rt: &R, file: InputFile, place: &str) -> Result<bool, Fault> {
+fn is_ours<R: Files + AllocGlobal>(rt: &R, file: InputFile, path: &str) -> Result<bool, Fault> {
     let is_journal = matches!(file, InputFile::Journal);
-    let bytes = match read_bytes(rt, file, place) {
+    let bytes = match read_bytes(rt, file, path) {
         Ok(bytes) => bytes,
         Err(Fault::OutOfMemory) => return Err(Fault::OutOfMemory),
         Err(_) => return Ok(false),

@@ -196,7 +196,12 @@ pub fn paths_at<R: Files + AllocGlobal>(
     }
 }
 
-fn paths_of<R: Files + AllocGlobal>(rt: &R, file: InputFile, path: &str) -> io::Result<FilePaths> {
+/// The paths of a file that stands at this one, or is to stand there.
+pub fn paths_of<R: Files + AllocGlobal>(
+    rt: &R,
+    file: InputFile,
+    path: &str,
+) -> io::Result<FilePaths> {
     let path = end_of_links(rt, path)?;
     let beside = format!(in rt.alloc(); "{path}.new")?;
     Ok(FilePaths { file, path, beside })

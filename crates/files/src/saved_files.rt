@@ -1,5 +1,6 @@
 // The files of the folder: the requirements file, the lock of each target, and the journal.
 
+ghost use Rattle.std.specs.Option.{option_map_or};
 ghost use Rattle.std.specs.Prelude.{◌≡◌, ◌⊎◌, ◌++◌, [], IfErr, IfOk, OnOk, Ok, Err, string_bytes, ℕ};
 ghost use Rattle.journal.specs.Opens.{NamesTargets, Opens, ToldBy};
 ghost use Rattle.states.specs.declared.refusal.Refusal.TheVariants.{JournalBroken};
@@ -8,10 +9,10 @@ ghost use Rattle.inputs.specs.Faults.{TellsFault};
 ghost use Rattle.files.specs.Rewrites.{going_of, has_lock, is_known, is_left, lock_rewrites, rewrites_of, rewriting};
 ghost use Rattle.inputs.specs.declared.fault.Fault.TheVariants.{OutOfMemory};
 
-use crate::rewrite::{FilePaths, GoingFile, Rewrite, paths_at, rewrite_all};
+use crate::rewrite::{FilePaths, GoingFile, Rewrite, paths_at, paths_of, rewrite_all};
 use crate::stopped_save::{Beside, end_save, remove_left_of_opened};
 use edits::{Refusal, TargetName};
-use inputs::{Fault, InputFault, InputFile, LockFile, path_of, read_bytes};
+use inputs::{Fault, InputFile, LockFile, path_of, read_as, read_bytes};
 use journal::{Journal, Saved, Session, Told};
 use lists::{Seq, Text};
 use std::alloc::{AllocError, Global};
@@ -96,6 +97,18 @@ impl SavedFiles {
         self.open_with(alloc, self.requirements.as_slice())
     }
 
+    /// The same, with this text in the place of the requirements file where one is given.
+    fn open_over(&self, alloc: Global, requirements: Option<&[u8]>) -> Result<Session, Fault>
+        ensures { TellsFault (Opens
+            (option_map_or (λ text. text.now) requirements.entry self.now.requirements.items)
+            self.now.locks.entries self.now.journal) result }
+    {
+        match requirements {
+            Some(text) => self.open_with(alloc, text),
+            None => self.open(alloc),
+        }
+    }
+
     /// The history that the files stand for with this text in the place of the requirements file.
     pub fn open_with(&self, alloc: Global, requirements: &[u8]) -> Result<Session, Fault>
         ensures { TellsFault (Opens requirements.now self.now.locks.entries self.now.journal)
@@ -120,7 +133,34 @@ impl SavedFiles {
     ) -> Result<(SavedFiles, Session), Fault>
         ensures { IfOk result (λ opened. StandFor opened.0 opened.1) }
     {
-        match self.open(rt.alloc()) {
+        self.open_over_to_save(rt, dir, None)
+    }
+
+    /// The same where somebody else changed the requirements file, with the old text in its place.
+    pub fn open_hand_changed<R: Files + AllocGlobal>(
+        self,
+        rt: &R,
+        dir: &str,
+        old: &[u8],
+    ) -> Result<(SavedFiles, Session), Fault>
+        ensures { IfOk result (λ opened. Opens old.now opened.0.locks.entries opened.0.journal
+            (Ok opened.1)) }
+    {
+        self.open_over_to_save(rt, dir, Some(old))
+    }
+
+    /// The same, with this text in the place of the requirements file where one is given.
+    fn open_over_to_save<R: Files + AllocGlobal>(
+        self,
+        rt: &R,
+        dir: &str,
+        requirements: Option<&[u8]>,
+    ) -> Result<(SavedFiles, Session), Fault>
+        ensures { IfOk result (λ opened. Opens
+            (option_map_or (λ text. text.now) requirements.entry opened.0.requirements.items)
+            opened.0.locks.entries opened.0.journal (Ok opened.1)) }
+    {
+        match self.open_over(rt.alloc(), requirements) {
             Ok(session) => {
                 remove_left_of_opened(rt, dir, &session)?;
                 Ok((self, session))
@@ -130,7 +170,7 @@ impl SavedFiles {
                     return Err(Fault::Input(file, fault));
                 }
                 let files = SavedFiles::read(rt, dir)?;
-                let session = files.open(rt.alloc())?;
+                let session = files.open_over(rt.alloc(), requirements)?;
                 remove_left_of_opened(rt, dir, &session)?;
                 Ok((files, session))
             }
@@ -300,12 +340,11 @@ pub fn read_in<R: Files + AllocGlobal>(
     file: InputFile,
     beside: &Beside,
 ) -> Result<Vec<u8>, Fault> {
+    let path = path_of(rt.alloc(), dir, &file)?;
     if !beside.has(&file) {
-        let path = path_of(rt.alloc(), dir, &file)?;
         return read_bytes(rt, file, path.as_str());
     }
-    match paths_in(rt, dir, file.clone()?)? {
-        Some(paths) => read_bytes(rt, file, paths.beside.as_str()),
-        None => Err(Fault::Input(file, InputFault::Unreadable)),
-    }
+    let paths = paths_of(rt, file.clone()?, path.as_str());
+    let paths = read_as(file.clone()?, Text::from_string(path), paths)?;
+    read_bytes(rt, file, paths.beside.as_str())
 }

@@ -3,27 +3,25 @@
 use calls::subcommand_files::{
     environments_of, has_old_lines, index_of, lines_of, locked, named_in, refuse_no_folder,
 };
-use calls::{Call, NewTargetPaths, first_paths, new_target_paths};
+use calls::{Call, first_paths};
 use clap::error::ErrorKind;
 use command_line::command;
 use command_line::request::{
-    Beginning, ColorChoice, EditInputs, Format, Inputs, Invocation, RequestFault, Saving,
-    Subcommand, Verbosity, request,
+    Beginning, ColorChoice, Format, InitOptions, Invocation, RequestFault, Saving, Subcommand,
+    Verbosity, request,
 };
 use commands::batch::StreamFault;
 use details::{CallFiles, Details};
 use inputs::LockFile;
 use inputs::target_files::{TargetPath, target_files};
 use journal::Command;
-use phrases::Style;
 use reports::report::{Status, report, report_fault};
 use saves::{
     add_near_names, begin_history, edit_once, forget_once, rehearse_edit, rehearse_forget,
-    rehearse_init, rehearse_replace, rehearse_retarget, rehearse_step, replace_once, retarget_once,
-    run_batch, step_once, try_commands,
+    rehearse_init, rehearse_step, run_batch, step_once, try_commands,
 };
 use shell::given_words::has_option;
-use shell::screen::{Screen, shown_stop};
+use shell::screen::Screen;
 use std::alloc::{AllocError, Global};
 use std::io::{Read, Write};
 use std::rt::{Clock, Files};
@@ -64,13 +62,12 @@ where
         color,
         subcommand,
     } = invocation;
-    let style = given.screen.style(color);
     let mut details = Details::new(alloc, given.screen.manner(verbosity, color));
     let mut call = Call {
         rt,
         dir,
         output: &mut *output,
-        style,
+        style: given.screen.style(color),
     };
     let names_environment = has_option(given.words, "--env");
     let done = obey(
@@ -83,24 +80,10 @@ where
     );
     let status = match done {
         Ok(()) => Status::Done,
-        Err(stop) => report_shown(alloc, stop, style, output, errors),
+        Err(stop) => report(&stop, output, errors),
     };
     details.tell(alloc, status == Status::Fault, errors);
     status
-}
-
-/// Tells why a call stops, in a text that looks as the output does.
-fn report_shown<O: Write, E: Write>(
-    alloc: Global,
-    stop: Stop,
-    style: Style,
-    output: &mut O,
-    errors: &mut E,
-) -> Status {
-    match shown_stop(alloc, stop, style) {
-        Ok(stop) => report(&stop, output, errors),
-        Err(_) => report_fault(StreamFault::OutOfMemory, errors),
-    }
 }
 
 /// Tells why words are no request, and what to type where an option is missing.
@@ -168,6 +151,18 @@ fn verbosity_in(words: &[String]) -> Verbosity {
     }
 }
 
+/// The files that a subcommand names, but for those of its targets.
+fn files_of<'a>(alloc: Global, dir: &'a str, subcommand: &Subcommand<'a>) -> CallFiles<'a> {
+    CallFiles {
+        dir,
+        index: index_of(subcommand),
+        lines: lines_of(subcommand),
+        is_old: has_old_lines(subcommand),
+        named: named_in(subcommand),
+        targets: Vec::new(alloc),
+    }
+}
+
 /// What is known of a file that is refused is noted behind all else.
 fn obey<R: Files + Clock + AllocGlobal + Clone + Drop, I: Read + Drop, O: Write, E: Write>(
     call: &mut Call<'_, R, O>,
@@ -181,14 +176,7 @@ where
     R::File: LockFile,
 {
     let rt = call.rt;
-    let mut files = CallFiles {
-        dir: call.dir,
-        index: index_of(&subcommand),
-        lines: lines_of(&subcommand),
-        is_old: has_old_lines(&subcommand),
-        named: named_in(&subcommand),
-        targets: Vec::new(rt.alloc()),
-    };
+    let mut files = files_of(rt.alloc(), call.dir, &subcommand);
     let is_environment_idle = names_environment && environments_of(&subcommand).is_empty();
     let done = match target_files(rt.alloc(), environments_of(&subcommand)) {
         Ok(targets) => {
@@ -219,30 +207,23 @@ where
     refuse_no_folder(call.dir, &subcommand)?;
     let _lock = locked(call.rt, call.dir, &subcommand)?;
     match subcommand {
-        Subcommand::Init(inputs, saving) => init(call, details, &inputs, saving, targets, input),
-        Subcommand::Edit(edit, inputs, Saving::Save) => edit_once(call, details, edit, inputs),
-        Subcommand::Edit(edit, inputs, Saving::DryRun) => {
-            rehearse_edit(call, details, edit, inputs)
+        Subcommand::Init(options, saving) => init(call, details, &options, saving, targets, input),
+        Subcommand::Edit(asked, options, Saving::Save) => {
+            edit_once(call, details, asked, options, targets, input)
         }
-        Subcommand::Replace(replacement, inputs, Saving::Save) => {
-            replace_once(call, details, &replacement, inputs, input)
-        }
-        Subcommand::Replace(replacement, inputs, Saving::DryRun) => {
-            rehearse_replace(call, details, &replacement, inputs, input)
-        }
-        Subcommand::Retarget(given, inputs, saving) => {
-            let paths = new_target_paths(call.rt.alloc(), &given, targets)?;
-            retarget(call, details, paths, inputs, saving, input)
+        Subcommand::Edit(asked, options, Saving::DryRun) => {
+            rehearse_edit(call, details, asked, options, targets, input)
         }
         Subcommand::Undo(saving) => step(call, details, &Command::Undo, saving),
         Subcommand::Redo(saving) => step(call, details, &Command::Redo, saving),
         Subcommand::Forget(beginning, saving) => forget(call, details, beginning, saving),
-        Subcommand::Batch(inputs, is_all_or_none) => {
-            run_batch(call, details, inputs, is_all_or_none, input)
-        }
-        Subcommand::Try(inputs) => try_commands(call, inputs.index, targets, input),
+        Subcommand::Batch {
+            options,
+            is_all_or_none,
+        } => { run_batch(call, details, options, is_all_or_none, input) }
+        Subcommand::Try(options) => try_commands(call, options.index, targets, input),
         Subcommand::Show(shown, format) => print_shown(call, errors, shown, format),
-        Subcommand::Log(long, format) => print_history(call, errors, long, format),
+        Subcommand::Log { is_long, format } => print_history(call, errors, is_long, format),
         Subcommand::Diff(range, format) => print_diff(call, errors, range, format),
         Subcommand::Check(index, format) => check(call, details, errors, index, format),
         Subcommand::Outdated(index, format) => {
@@ -252,7 +233,8 @@ where
         Subcommand::Skipped(index) => print_skipped(call, index),
         Subcommand::Why(question, told) => {
             let watch = Waiting::new(call.rt, &mut *errors, details.manner.is_person);
-            let telling = Telling { told, watch };
+            let width = call.style.explained_width();
+            let telling = Telling { told, width, watch };
             answer_why(call, &mut details.lacks, question, telling, targets, input)
         }
     }
@@ -276,7 +258,7 @@ where
     };
     if let Some(change) = print_check(call, errors, index, format)? {
         if details.tells() {
-            details.changes = diff_text(call.rt.alloc(), &change)?;
+            details.changes = diff_text(call.rt.alloc(), &change, details.manner.style)?;
         }
     }
     Ok(())
@@ -286,7 +268,7 @@ where
 fn init<R: Files + AllocGlobal, I: Read + Drop, O: Write>(
     call: &mut Call<'_, R, O>,
     details: &mut Details,
-    inputs: &Inputs<'_>,
+    options: &InitOptions<'_>,
     saving: Saving,
     targets: Vec<TargetPath>,
     input: I,
@@ -294,28 +276,10 @@ fn init<R: Files + AllocGlobal, I: Read + Drop, O: Write>(
 where
     R::File: LockFile,
 {
-    let paths = first_paths(call.rt.alloc(), inputs, targets)?;
+    let paths = first_paths(call.rt.alloc(), options, targets)?;
     match saving {
         Saving::Save => begin_history(call, details, paths, input),
         Saving::DryRun => rehearse_init(call, details, paths, input),
-    }
-}
-
-/// Other targets, saved or not.
-fn retarget<R: Files + AllocGlobal, I: Read + Drop, O: Write>(
-    call: &mut Call<'_, R, O>,
-    details: &mut Details,
-    paths: NewTargetPaths,
-    inputs: EditInputs<'_>,
-    saving: Saving,
-    input: I,
-) -> Result<(), Stop>
-where
-    R::File: LockFile,
-{
-    match saving {
-        Saving::Save => retarget_once(call, details, paths, inputs, input),
-        Saving::DryRun => rehearse_retarget(call, details, paths, inputs, input),
     }
 }
 

@@ -3,7 +3,7 @@
 use crate::init::begin;
 use crate::standing_lock::refuse_standing;
 use calls::{Call, pool_of};
-use command_line::request::EditInputs;
+use command_line::request::EditOptions;
 use commands::batch::batch_to_its_end;
 use commands::{BatchEnd, Counted, RefusedLine};
 use details::Details;
@@ -25,7 +25,7 @@ use stops::Stop;
 pub fn run_batch<R: Files + AllocGlobal, I: Read + Drop, O: Write>(
     call: &mut Call<'_, R, O>,
     details: &mut Details,
-    inputs: EditInputs<'_>,
+    options: EditOptions<'_>,
     is_all_or_none: bool,
     input: I,
 ) -> Result<(), Stop>
@@ -37,8 +37,8 @@ where
         files,
         mut session,
         snapshot,
-    } = history_to_save(rt, dir, inputs.index)?;
-    let pool = pool_of(&snapshot, inputs);
+    } = history_to_save(rt, dir, options.index)?;
+    let pool = pool_of(&snapshot, options);
     let before = target_names(rt.alloc(), &session)?;
     let output = &mut call.output;
     let end = done_to_the_end(

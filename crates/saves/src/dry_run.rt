@@ -2,35 +2,41 @@
 
 use crate::edit::{applied, changed_from, takes_pins};
 use crate::standing_lock::refuse_standing;
-use calls::{Call, difference_between, pool_of};
-use command_line::request::EditInputs;
+use calls::{Call, UnsavedEdit, asked_edit, difference_between, pool_of};
+use command_line::request::{AskedEdit, EditOptions};
 use commands::ReplyText;
 use details::{Changed, Details, Place};
-use edits::Edit;
-use files::saved_history::{saved_session, session_over};
+use files::saved_history::saved_session;
 use files::standing_lock::target_names;
 use inputs::LockFile;
+use inputs::target_files::TargetPath;
 use journal::{Command, Session};
 use reports::print;
-use std::io::Write;
+use std::io::{Read, Write};
 use std::rt::Files;
 use stops::Stop;
 use texts::diff_text::diff_text;
 
 /// Makes one edit over an index, and prints the reply and what changed. A save that was stopped isn't ended:
 /// its files are read as they stand.
-pub fn rehearse_edit<R: Files + AllocGlobal, O: Write>(
+pub fn rehearse_edit<R: Files + AllocGlobal, I: Read + Drop, O: Write>(
     call: &mut Call<'_, R, O>,
     details: &mut Details,
-    edit: Edit,
-    inputs: EditInputs<'_>,
+    asked: AskedEdit<'_>,
+    options: EditOptions<'_>,
+    targets: Vec<TargetPath>,
+    input: I,
 ) -> Result<(), Stop>
 where
     R::File: LockFile,
 {
-    let (session, snapshot) = session_over(call.rt, call.dir, inputs.index)?;
-    let command = Command::Edit(edit, pool_of(&snapshot, inputs));
-    rehearse(call, details, session, &command, inputs.only_if_needed)
+    let UnsavedEdit {
+        session,
+        snapshot,
+        edit,
+    } = asked_edit(call.rt, call.dir, asked, options, targets, input)?;
+    let command = Command::Edit(edit, pool_of(&snapshot, options));
+    rehearse(call, details, session, &command, options.only_if_needed)
 }
 
 /// Does one command that needs no index, in the same way.
@@ -76,7 +82,7 @@ pub(crate) fn rehearse<R: Files + AllocGlobal, O: Write>(
         is_saved: false,
     };
     details.add_moved(alloc, &session, command, changed)?;
-    let change = call.style.change(alloc, diff_text(alloc, &change)?)?;
+    let change = diff_text(alloc, &change, call.style)?;
     print(&mut call.output, text.as_bytes())?;
     Ok(print(&mut call.output, change.as_bytes())?)
 }

@@ -5,46 +5,51 @@ ghost use Rattle.journal.specs.Commands.{asked_of};
 ghost use Rattle.saves.specs.Applied.{GoesOn, StopsAt};
 
 use crate::standing_lock::refuse_standing;
-use calls::{Call, difference_between, pool_of};
-use command_line::request::EditInputs;
+use calls::{Call, ReadEdit, asked_edit_to_save, difference_between, pool_of};
+use command_line::request::{AskedEdit, EditOptions};
 use commands::{ReplyText, apply_command, is_accepted};
 use details::{Changed, Details, Place};
-use edits::Edit;
 use files::SavedFiles;
-use files::saved_history::{SavedHistory, history_to_save};
+use files::saved_history::SavedHistory;
 use files::standing_lock::target_names;
 use inputs::LockFile;
+use inputs::target_files::TargetPath;
 use journal::{Command, Reply, Session};
 use reports::print;
 use std::alloc::Global;
-use std::io::Write;
+use std::io::{Read, Write};
 use std::rt::Files;
 use stops::{Stop, unless_refused};
 use texts::diff_text::diff_text;
 
-/// Makes one edit over an index.
-pub fn edit_once<R: Files + AllocGlobal, O: Write>(
+/// Makes one edit over an index. `targets` are those that take the place of the present ones, where it asks for some.
+pub fn edit_once<R: Files + AllocGlobal, I: Read + Drop, O: Write>(
     call: &mut Call<'_, R, O>,
     details: &mut Details,
-    edit: Edit,
-    inputs: EditInputs<'_>,
+    asked: AskedEdit<'_>,
+    options: EditOptions<'_>,
+    targets: Vec<TargetPath>,
+    input: I,
 ) -> Result<(), Stop>
 where
     R::File: LockFile,
 {
+    let ReadEdit { history, edit } = asked_edit_to_save(
+        call.rt, call.dir, asked, options, targets, input,
+    )?;
     let SavedHistory {
         files,
         session,
         snapshot,
-    } = history_to_save(call.rt, call.dir, inputs.index)?;
-    let command = Command::Edit(edit, pool_of(&snapshot, inputs));
+    } = history;
+    let command = Command::Edit(edit, pool_of(&snapshot, options));
     apply(
         call,
         details,
         &files,
         session,
         &command,
-        inputs.only_if_needed,
+        options.only_if_needed,
     )
 }
 
@@ -157,7 +162,7 @@ fn add_change(
     }
     let change = difference_between(alloc, session, from.cursor, session.cursor())?;
     if details.manner.tells {
-        details.changes = diff_text(alloc, &change)?;
+        details.changes = diff_text(alloc, &change, details.manner.style)?;
     }
     let changed = Changed {
         from,

@@ -67,8 +67,7 @@ pub fn rehearse_init<R: Files + AllocGlobal, I: Read + Drop, O: Write>(
     text.set(&Reply::Done(session.cursor()));
     details.add_first_lock(alloc, &session, &snapshot, "would be locked")?;
     details.add_replaceable(steps_before)?;
-    let locks = first_lock_text(alloc, session.state().targets())?;
-    let locks = call.style.change(alloc, locks)?;
+    let locks = first_lock_text(alloc, session.state().targets(), call.style)?;
     print(&mut call.output, text.as_bytes())?;
     Ok(print(&mut call.output, locks.as_bytes())?)
 }
@@ -84,7 +83,7 @@ fn refuse_link<R: Files + AllocGlobal>(
         return Ok(());
     };
     details.add_link(&link)?;
-    let LinkOut { file, place: _ } = link;
+    let LinkOut { file, path: _ } = link;
     Err(Stop::Unwritten(file))
 }
 

@@ -1,4 +1,4 @@
-//! What the subcommands do that save: a first lock, an edit, a replacement, other targets, a step, a shorter history, a batch; and their rehearsals, which save nothing.
+//! What the subcommands do that save: a first lock, an edit, a step, a shorter history, a batch; and their rehearsals, which save nothing.
 #![tactic(auto)]
 
 mod batch;
@@ -7,9 +7,6 @@ mod edit;
 mod forget;
 mod init;
 mod near_names;
-mod read_edit;
-mod replace;
-mod retarget;
 mod standing_lock;
 
 pub use crate::batch::{run_batch, try_commands};
@@ -18,5 +15,3 @@ pub use crate::edit::{edit_once, step_once};
 pub use crate::forget::{forget_once, rehearse_forget};
 pub use crate::init::{begin_history, rehearse_init};
 pub use crate::near_names::add_near_names;
-pub use crate::replace::{rehearse_replace, replace_once};
-pub use crate::retarget::{rehearse_retarget, retarget_once};

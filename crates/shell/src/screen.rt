@@ -4,10 +4,8 @@ use crate::given_words::NoWords;
 use command_line::request::{ColorChoice, Verbosity};
 use details::Manner;
 use phrases::Style;
-use std::alloc::{AllocError, Global};
 use std::env::VarError;
 use std::rt::Env;
-use stops::Stop;
 
 /// The least width that lines are broken for.
 const LEAST_WIDTH: usize = 20;
@@ -74,23 +72,6 @@ impl Screen {
             width: if is_person { self.width } else { None },
         }
     }
-}
-
-/// A stop whose text looks as the output does.
-pub fn shown_stop(alloc: Global, stop: Stop, style: Style) -> Result<Stop, AllocError> {
-    match stop {
-        Stop::Stale(text) => Ok(Stop::Stale(shown_change(alloc, text, style)?)),
-        Stop::Explained(text) => Ok(Stop::Explained(style.explanation(alloc, text)?)),
-        stop => Ok(stop),
-    }
-}
-
-/// A difference as it looks there; JSON stays as it is.
-fn shown_change(alloc: Global, text: String, style: Style) -> Result<String, AllocError> {
-    if text.as_str().starts_with("{") {
-        return Ok(text);
-    }
-    style.change(alloc, text)
 }
 
 fn is_dumb<R: Env + AllocGlobal>(rt: &R) -> Result<bool, NoWords> {

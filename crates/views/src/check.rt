@@ -13,6 +13,7 @@ use edits::{Change, Edit, Pool, Refusal, State, edit};
 use files::saved_history::{saved_session, session_over};
 use inputs::{Fault, LockFile};
 use journal::{Reply, Session};
+use phrases::Style;
 use reports::print;
 use resolve::RESOLVER;
 use snapshot::Snapshot;
@@ -46,7 +47,8 @@ where
         Some(index) => {
             let (session, snapshot) = session_over(call.rt, call.dir, index)?;
             tell_strays(call, &session, errors)?;
-            print_current(alloc, &session, &snapshot, format, &mut call.output)
+            let style = call.style;
+            print_current(alloc, &session, &snapshot, format, style, &mut call.output)
         }
     }
 }
@@ -85,6 +87,7 @@ pub fn print_current<O: Write>(
     session: &Session,
     snapshot: &Snapshot,
     format: Format,
+    style: Style,
     output: &mut O,
 ) -> Result<Option<Change>, Stop>
     ensures current { IfOk result (λ change. IfSome (present session.now.past)
@@ -93,7 +96,7 @@ pub fn print_current<O: Write>(
         (λ state. (change : ChangeParts) × IsOutOfDate state snapshot.now change)) }
 {
     let change = relock_change(alloc, session.state(), snapshot)?;
-    let text = current_text(alloc, session.cursor(), change.as_ref(), format)?;
+    let text = current_text(alloc, session.cursor(), change.as_ref(), format, style)?;
     match change {
         Some(change) => {
             if moves(&change) {
@@ -121,6 +124,7 @@ fn current_text(
     place: usize,
     change: Option<&Change>,
     format: Format,
+    style: Style,
 ) -> Result<String, AllocError> {
     let moved = match change {
         Some(change) if moves(change) => Some(change),
@@ -135,7 +139,8 @@ fn current_text(
         (Format::Lines, None) => String::from_str(alloc, "current\n"),
         (Format::Lines, Some(change)) => {
             let mut text = String::from_str(alloc, "stale\n")?;
-            text.push_str(diff_text(alloc, change)?.as_str())?;
+            let diff = diff_text(alloc, change, style)?;
+            text.push_str(diff.as_str())?;
             Ok(text)
         }
     }

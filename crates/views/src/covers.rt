@@ -47,8 +47,8 @@ pub(crate) fn covers_text<R: Files + AllocGlobal>(
     for file in files {
         let environment = environment_at(rt, file.as_str())?;
         add_plain(&mut text, file.as_str())?;
-        let holds = add_holding(&mut text, held, &environment)?;
-        is_covered = is_covered && holds;
+        add_holding(&mut text, held, &environment)?;
+        is_covered = is_covered && is_held(held, &environment);
     }
     add_needless(&mut text, held)?;
     if is_covered {
@@ -79,24 +79,30 @@ fn holds_in(held: &Held<'_>, environment: &Environment) -> bool {
     }
 }
 
-/// Puts the targets that hold in an environment behind its file, and tells whether there is one.
+/// Whether the lock of a target holds in an environment.
+fn is_held(held: &[Held<'_>], environment: &Environment) -> bool {
+    held.iter().any(|one| holds_in(one, environment))
+}
+
+/// Puts the targets that hold in an environment behind its file.
 fn add_holding(
     text: &mut String,
     held: &[Held<'_>],
     environment: &Environment,
-) -> Result<bool, AllocError> {
+) -> Result<(), AllocError> {
     let mut mark = ": ";
-    let mut holds = false;
     for one in held {
         if holds_in(one, environment) {
             text.push_str(mark)?;
             add_name(text, one.target)?;
             mark = ", ";
-            holds = true;
         }
     }
-    text.push_str(if holds { "\n" } else { ": no target\n" })?;
-    Ok(holds)
+    text.push_str(if is_held(held, environment) {
+        "\n"
+    } else {
+        ": no target\n"
+    })
 }
 
 /// The name of a target; one of a single environment has none.

@@ -34,7 +34,7 @@ where
     let change = change_in(alloc, &held, from, to)?;
     say_changed(alloc, call.dir, &held, Printed::Steps, errors)?;
     let text = match format {
-        Format::Lines => call.style.change(alloc, diff_text(alloc, &change)?)?,
+        Format::Lines => diff_text(alloc, &change, call.style)?,
         Format::Json => diff_json(alloc, &change, (from, to), held.has_other_lines())?,
     };
     show(&mut call.output, text.as_bytes())?;

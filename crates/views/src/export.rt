@@ -35,46 +35,37 @@ where
     let asks = !export.covers.is_empty();
     let text = match export.format {
         ExportFormat::Hashes | ExportFormat::Dot if asks => return Err(no_format(call.rt.alloc())),
-        ExportFormat::Hashes => hashes_of(call.rt, call.dir, export.target, errors)?,
-        ExportFormat::Dot => graph_of(call.rt, call.dir, export.target, errors)?,
+        ExportFormat::Hashes | ExportFormat::Dot => saved_text(call.rt, call.dir, export, errors)?,
         ExportFormat::Pylock => portable(call.rt, call.dir, export)?,
     };
     print(&mut call.output, text.as_bytes())?;
     Ok(())
 }
 
-/// The lock of a target, for pip.
-fn hashes_of<R: Files + AllocGlobal, E: Write>(
+/// The lock of a target for pip, or the graph of the locks for Graphviz.
+fn saved_text<R: Files + AllocGlobal, E: Write>(
     rt: &R,
     dir: &str,
-    name: Option<&str>,
+    export: &Export<'_>,
     errors: &mut E,
 ) -> Result<String, Stop>
 where
     R::File: LockFile,
 {
     let alloc = rt.alloc();
+    let is_graph = matches!(export.format, ExportFormat::Dot);
+    let printed = if is_graph {
+        Printed::LocksWithLines
+    } else {
+        Printed::Locks
+    };
     let held = held_history(rt, dir)?;
-    say_changed(alloc, dir, &held, Printed::Locks, errors)?;
-    let targets = wanted_targets(alloc, held.targets(), name)?;
+    say_changed(alloc, dir, &held, printed, errors)?;
+    let targets = wanted_targets(alloc, held.targets(), export.target)?;
+    if is_graph {
+        return Ok(graph_text(alloc, held.lines().lines(), targets)?);
+    }
     Ok(requirements_text(alloc, &only_target(alloc, targets)?.lock)?)
-}
-
-/// The graph of the locks, for Graphviz.
-fn graph_of<R: Files + AllocGlobal, E: Write>(
-    rt: &R,
-    dir: &str,
-    name: Option<&str>,
-    errors: &mut E,
-) -> Result<String, Stop>
-where
-    R::File: LockFile,
-{
-    let alloc = rt.alloc();
-    let held = held_history(rt, dir)?;
-    say_changed(alloc, dir, &held, Printed::LocksWithLines, errors)?;
-    let targets = wanted_targets(alloc, held.targets(), name)?;
-    Ok(graph_text(alloc, held.lines().lines(), targets)?)
 }
 
 /// The lock of the targets, with what was asked of their environments over the index that it was made of; or which of them hold in

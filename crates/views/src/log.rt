@@ -27,9 +27,7 @@ where
     say_changed(alloc, call.dir, &held, Printed::Steps, errors)?;
     let steps = steps_of(&held);
     let text = match format {
-        Format::Lines => call
-            .style
-            .history(alloc, history_text(alloc, steps, long)?)?,
+        Format::Lines => history_text(alloc, steps, long, call.style)?,
         Format::Json => log_json(alloc, steps)?,
     };
     show(&mut call.output, text.as_bytes())?;

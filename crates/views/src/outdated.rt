@@ -26,10 +26,7 @@ where
     let (session, snapshot) = session_over(call.rt, call.dir, index)?;
     lacks.add_newer(alloc, session.state(), &snapshot, None)?;
     let text = match format {
-        Format::Lines => {
-            let text = outdated_text(alloc, session.state(), &snapshot)?;
-            call.style.table(alloc, text)?
-        }
+        Format::Lines => outdated_text(alloc, session.state(), &snapshot, call.style)?,
         Format::Json => outdated_json(alloc, session.state(), &snapshot)?,
     };
     show(&mut call.output, text.as_bytes())?;

@@ -1,10 +1,10 @@
 // What `why` answers.
 
 use crate::waiting::Telling;
-use crate::why::{print_why, print_why_init, print_why_replace, print_why_retarget};
+use crate::why::{print_why, print_why_init};
 use crate::why_not::print_why_not;
 use answers::Watch;
-use calls::{Call, first_paths, new_target_paths};
+use calls::{Call, asked_edit, first_paths};
 use command_line::request::Question;
 use inputs::LockFile;
 use inputs::target_files::TargetPath;
@@ -27,13 +27,9 @@ where
     R::File: LockFile,
 {
     match question {
-        Question::Edit(edit, inputs) => print_why(call, lacks, &edit, inputs, telling),
-        Question::Replace(replacement, inputs) => {
-            print_why_replace(call, lacks, &replacement, inputs, telling, input)
-        }
-        Question::Retarget(given, inputs) => {
-            let paths = new_target_paths(call.rt.alloc(), &given, targets)?;
-            print_why_retarget(call, lacks, paths, inputs, telling, input)
+        Question::Edit(asked, inputs) => {
+            let unsaved = asked_edit(call.rt, call.dir, asked, inputs, targets, input)?;
+            print_why(call, lacks, unsaved, inputs, telling)
         }
         Question::Init(inputs, line) => {
             let paths = first_paths(call.rt.alloc(), &inputs, targets)?;

@@ -68,7 +68,7 @@ fn table_text(
     style: Style,
 ) -> Result<String, AllocError> {
     match format {
-        Format::Lines => style.table(alloc, lock_text(alloc, locks)?),
+        Format::Lines => lock_text(alloc, locks, style),
         Format::Json => lock_json(alloc, locks, None, None),
     }
 }

@@ -57,5 +57,7 @@ impl<R: Clock, E: Write> Watch for Waiting<'_, R, E> {
 #[derive(Drop)]
 pub struct Telling<W> {
     pub told: Told,
+    /// How many characters a line of sentences has at most.
+    pub width: usize,
     pub watch: W,
 }

@@ -5,14 +5,14 @@ ghost use Rattle.std.specs.List.{All};
 ghost use Rattle.answers.specs.Answers.{IsSolvable};
 
 use crate::waiting::Telling;
-use answers::{Shown, Watch, changed_by, explained_text, first_refuted, lines_of, listed_text};
-use calls::{Call, NewTargetPaths, ReadEdit, pool_of, replaced, retargeted};
-use command_line::request::{EditInputs, Replacement, Told};
+use answers::{
+    Watch, changed_by, explained_text, first_explained, first_refuted, lines_of, listed_text,
+};
+use calls::{Call, UnsavedEdit, pool_of};
+use command_line::request::{EditOptions, Told};
 use edits::{Edit, Problem, TargetName, problem_after, problems_of_init};
 use explain::{ChangedLines, Extent, Wording};
 use files::first_inputs::{FirstInputs, FirstPaths, first_inputs};
-use files::saved_history::session_over;
-use inputs::LockFile;
 use lists::Text;
 use notes::Lacks;
 use reports::print;
@@ -23,75 +23,24 @@ use stops::Stop;
 
 /// Prints why an edit of the saved state has no solution over an index: a refutation that `check`
 /// accepts, of the first target that has none. Where each one has a solution, that is printed.
-/// It is told in sentences where that is asked for, long ones too. All files are read before a fault in one is told.
-pub(crate) fn print_why<R: Files + AllocGlobal, O: Write, W: Watch + Drop>(
+/// It is told in sentences where that is asked for, long ones too. The lines that are told are those that the edit leaves.
+pub(crate) fn print_why<R: AllocGlobal, O: Write, W: Watch + Drop>(
     call: &mut Call<'_, R, O>,
     lacks: &mut Lacks,
-    edit: &Edit,
-    inputs: EditInputs<'_>,
-    telling: Telling<W>,
-) -> Result<(), Stop>
-where
-    R::File: LockFile,
-{
-    let alloc = call.rt.alloc();
-    let (session, snapshot) = session_over(call.rt, call.dir, inputs.index)?;
-    let pool = pool_of(&snapshot, inputs);
-    let problems = problem_after(alloc, session.state(), edit, &pool)?;
-    let changed = ChangedLines {
-        lines: session.state().lines().lines(),
-        changed: changed_by(edit),
-    };
-    let asked = Asked { changed, telling };
-    answer(alloc, lacks, asked, problems.as_slice(), &mut call.output)
-}
-
-/// The same of other lines in the place of all lines. The lines that are told are the new ones.
-pub(crate) fn print_why_replace<R: Files + AllocGlobal, I: Read + Drop, O: Write, W: Watch + Drop>(
-    call: &mut Call<'_, R, O>,
-    lacks: &mut Lacks,
-    replacement: &Replacement<'_>,
-    inputs: EditInputs<'_>,
-    telling: Telling<W>,
-    input: I,
-) -> Result<(), Stop>
-where
-    R::File: LockFile,
-{
-    let read = replaced(call.rt, call.dir, replacement, inputs, input)?;
-    print_why_read(call, lacks, read, inputs, telling)
-}
-
-/// The same of other targets in the place of the present ones.
-pub(crate) fn print_why_retarget<R: Files + AllocGlobal, I: Read + Drop, O: Write, W: Watch + Drop>(
-    call: &mut Call<'_, R, O>,
-    lacks: &mut Lacks,
-    paths: NewTargetPaths,
-    inputs: EditInputs<'_>,
-    telling: Telling<W>,
-    input: I,
-) -> Result<(), Stop>
-where
-    R::File: LockFile,
-{
-    let read = retargeted(call.rt, call.dir, paths, inputs, input)?;
-    print_why_read(call, lacks, read, inputs, telling)
-}
-
-/// The same of an edit that files were read for.
-fn print_why_read<R: AllocGlobal, O: Write, W: Watch + Drop>(
-    call: &mut Call<'_, R, O>,
-    lacks: &mut Lacks,
-    read: ReadEdit,
-    inputs: EditInputs<'_>,
+    unsaved: UnsavedEdit,
+    options: EditOptions<'_>,
     telling: Telling<W>,
 ) -> Result<(), Stop> {
     let alloc = call.rt.alloc();
-    let ReadEdit { history, edit } = read;
-    let pool = pool_of(&history.snapshot, inputs);
-    let problems = problem_after(alloc, history.session.state(), &edit, &pool)?;
+    let UnsavedEdit {
+        session,
+        snapshot,
+        edit,
+    } = unsaved;
+    let pool = pool_of(&snapshot, options);
+    let problems = problem_after(alloc, session.state(), &edit, &pool)?;
     let changed = ChangedLines {
-        lines: lines_of(&edit, history.session.state()),
+        lines: lines_of(&edit, session.state()),
         changed: changed_by(&edit),
     };
     let asked = Asked { changed, telling };
@@ -146,34 +95,80 @@ pub fn answer<O: Write, W: Watch + Drop>(
 ) -> Result<(), Stop>
     ensures { IfOk result (λ _. All IsSolvable problems.now) }
 {
+    stop_unsolvable(alloc, lacks, asked, problems)?;
+    Ok(print(output, b"solvable\n".as_slice())?)
+}
+
+/// Stops where a target has no solution, with what is told of the first.
+fn stop_unsolvable<W: Watch + Drop>(
+    alloc: Global,
+    lacks: &mut Lacks,
+    asked: Asked<'_, W>,
+    problems: &[(TargetName, Problem<'_>)],
+) -> Result<(), Stop>
+    ensures { IfOk result (λ _. All IsSolvable problems.now) }
+{
     let Asked { changed, telling } = asked;
-    let Telling { told, mut watch } = telling;
-    let explains = told != Told::Conflicts;
-    match first_refuted(alloc, problems, explains, &mut watch)? {
-        Some((position, shown)) => {
+    let Telling {
+        told,
+        width,
+        mut watch,
+    } = telling;
+    if told == Told::Conflicts {
+        return stop_refuted(alloc, lacks, problems, &mut watch);
+    }
+    let wording = wording_of(changed, told, width);
+    stop_explained(alloc, lacks, wording, problems, &mut watch)
+}
+
+/// With the conflicts of a refutation.
+fn stop_refuted<W: Watch>(
+    alloc: Global,
+    lacks: &mut Lacks,
+    problems: &[(TargetName, Problem<'_>)],
+    watch: &mut W,
+) -> Result<(), Stop>
+    ensures { IfOk result (λ _. All IsSolvable problems.now) }
+{
+    match first_refuted(alloc, problems, watch)? {
+        Some((position, refutation)) => {
             let (name, problem) = &problems[position];
             lacks.add_asked(alloc, name, problem, true)?;
-            Err(match shown {
-                Shown::Listed(refutation) => {
-                    Stop::Refuted(listed_text(alloc, name, &refutation)?)
-                }
-                Shown::Explained(explanation) => {
-                    let wording = wording_of(changed, told);
-                    Stop::Explained(explained_text(alloc, name, problem, &explanation, wording)?)
-                }
-            })
+            Err(Stop::Refuted(listed_text(alloc, name, &refutation)?))
         }
-        None => Ok(print(output, b"solvable\n".as_slice())?),
+        None => Ok(()),
     }
 }
 
-/// How sentences on changed lines are worded.
-pub(crate) fn wording_of(lines: ChangedLines<'_>, told: Told) -> Wording<'_> {
+/// In sentences.
+fn stop_explained<W: Watch>(
+    alloc: Global,
+    lacks: &mut Lacks,
+    wording: Wording<'_>,
+    problems: &[(TargetName, Problem<'_>)],
+    watch: &mut W,
+) -> Result<(), Stop>
+    ensures { IfOk result (λ _. All IsSolvable problems.now) }
+{
+    match first_explained(alloc, problems, watch)? {
+        Some((position, explanation)) => {
+            let (name, problem) = &problems[position];
+            lacks.add_asked(alloc, name, problem, true)?;
+            let text = explained_text(alloc, name, problem, &explanation, wording)?;
+            Err(Stop::Explained(text))
+        }
+        None => Ok(()),
+    }
+}
+
+/// How sentences on changed lines are worded, in lines of the width at most.
+pub(crate) fn wording_of(lines: ChangedLines<'_>, told: Told, width: usize) -> Wording<'_> {
     Wording {
         lines,
         extent: match told {
             Told::LongSentences => Extent::Long,
             Told::Sentences | Told::Conflicts => Extent::Short,
         },
+        width,
     }
 }

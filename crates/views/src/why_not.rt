@@ -10,10 +10,12 @@ use crate::why::wording_of;
 use answers::{Watch, best_keeping, explained_text, kept_longest, refuted_by_sets};
 use calls::Call;
 use edits::{
-    Cause, Edit, Learning, Line, Name, Pool, Problem, Refusal, Resolver, State, Target,
-    problem_after, problems_with,
+    Cause, Edit, Learning, Name, Pool, Problem, Refusal, Resolver, State, Target, problem_after,
+    problems_with,
 };
-use explain::{ChangedLine, ChangedLines, WantedRelease, add_difference, add_same, add_uncounted};
+use explain::{
+    ChangedLine, ChangedLines, WantedRelease, add_difference, add_same, uncounted_release,
+};
 use files::saved_history::session_over;
 use inputs::LockFile;
 use lists::Text;
@@ -171,18 +173,20 @@ impl Lacking<'_> {
         };
         let name = &named.name;
         let wanted = WantedRelease { name, version };
-        if is_uncounted(alloc, &mut text, present, wanted)? {
+        let width = telling.width;
+        if let Some(release) = uncounted_release(alloc, present, wanted)? {
+            release.add_reasons(alloc, &mut text, width, present)?;
             return Ok(text);
         }
         let taken = best_keeping(alloc, self.state, self.target, name, version, self.snapshot)?;
         if let Some(best) = taken {
-            add_difference(alloc, &mut text, present, wanted, &best)?;
+            add_difference(alloc, &mut text, width, present, wanted, &best)?;
             return Ok(text);
         }
         match Learning.resolve(alloc, asked)? {
             Answer::Solution(best) => {
                 let best = kept_longest(alloc, present, asked, name, best)?;
-                add_difference(alloc, &mut text, present, wanted, &best)?;
+                add_difference(alloc, &mut text, width, present, wanted, &best)?;
                 Ok(text)
             }
             Answer::NoSolution => self.refuted(alloc, text, asked, telling),
@@ -202,8 +206,12 @@ impl Lacking<'_> {
             lines: state.lines().lines(),
             changed: ChangedLine::Wanted(&named.text),
         };
-        let Telling { told, mut watch } = telling;
-        let wording = wording_of(changed, told);
+        let Telling {
+            told,
+            width,
+            mut watch,
+        } = telling;
+        let wording = wording_of(changed, told, width);
         match refuted_by_sets(alloc, asked, &mut watch)? {
             Some(explanation) => {
                 let text = explained_text(alloc, &self.target.name, asked, &explanation, wording)?;
@@ -249,21 +257,4 @@ fn same_text(alloc: Global, named: &NamedRelease) -> Result<String, AllocError> 
         text.push_str("\n")?;
     }
     Ok(text)
-}
-
-/// Tells why the release counts for nothing, where it does.
-fn is_uncounted(
-    alloc: Global,
-    text: &mut String,
-    before: &Problem<'_>,
-    wanted: WantedRelease<'_>,
-) -> Result<bool, AllocError> {
-    match Line::read(alloc, wanted.name.normal()) {
-        Ok(line) => match line.requirement() {
-            Some(requirement) => add_uncounted(alloc, text, before, requirement, wanted),
-            None => Ok(false),
-        },
-        Err(Cause::OutOfMemory) => Err(AllocError),
-        Err(_) => Ok(false),
-    }
 }
