@@ -4,9 +4,9 @@ use crate::environment_rows::bytes_of;
 use crate::growing_text::GrowingText;
 use crate::notation::owned;
 use command_line::request::{
-    Beginning, ColorChoice, DiffRange, EditInputs, Export, ExportFormat, Format, Inputs,
-    Invocation, NeededOption, NewLines, NewTargets, Question, Replacement, RequestFault, Saving,
-    Shown, Subcommand, Told, Verbosity, request,
+    AskedEdit, Beginning, ColorChoice, DiffRange, EditOptions, Export, ExportFormat, Format,
+    InitOptions, Invocation, NeededOption, NewLines, NewTargets, Question, Replacement,
+    RequestFault, Saving, Shown, Subcommand, Told, Verbosity, request,
 };
 use commands::{Item, read_item};
 use edits::Edit;
@@ -46,13 +46,13 @@ pub fn command(alloc: Global, line: &str, is_ended: bool) -> Option<String> {
 }
 
 /// Pushes a subcommand with the files that a history begins with.
-fn push_inputs(text: &mut GrowingText, name: &str, inputs: &Inputs<'_>) {
-    let index = inputs.index;
+fn push_init_options(text: &mut GrowingText, name: &str, options: &InitOptions<'_>) {
+    let index = options.index;
     write!(text, "{name} {index}");
-    for environment in inputs.environments.as_slice() {
+    for environment in options.environments.as_slice() {
         write!(text, " {environment}");
     }
-    push_pins(text, inputs.pins.as_slice());
+    push_pins(text, options.pins.as_slice());
 }
 
 /// Pushes versions to keep.
@@ -123,34 +123,33 @@ fn push_range(text: &mut GrowingText, range: DiffRange) {
 }
 
 /// Pushes what an edit is made over.
-fn push_edit_inputs(text: &mut GrowingText, inputs: EditInputs<'_>) {
-    let index = inputs.index;
+fn push_edit_options(text: &mut GrowingText, options: EditOptions<'_>) {
+    let index = options.index;
     write!(text, " {index}");
-    if inputs.keeps_locked {
+    if options.keeps_locked {
         text.push_str(" kept");
     }
-    if inputs.only_if_needed {
+    if options.only_if_needed {
         text.push_str(" if needed");
     }
+}
+
+/// Pushes an edit that words ask for, and what it is made over.
+fn push_asked_edit(text: &mut GrowingText, asked: &AskedEdit<'_>, options: EditOptions<'_>) {
+    match asked {
+        AskedEdit::Typed(edit) => push_edit(text, edit),
+        AskedEdit::Replace(replacement) => push_replacement(text, replacement),
+        AskedEdit::Retarget(targets) => push_new_targets(text, targets),
+    }
+    push_edit_options(text, options);
 }
 
 /// Pushes the question of `why`.
 fn push_question(text: &mut GrowingText, question: &Question<'_>) {
     match question {
-        Question::Edit(edit, inputs) => {
-            push_edit(text, edit);
-            push_edit_inputs(text, *inputs);
-        }
-        Question::Replace(replacement, inputs) => {
-            push_replacement(text, replacement);
-            push_edit_inputs(text, *inputs);
-        }
-        Question::Retarget(targets, inputs) => {
-            push_new_targets(text, targets);
-            push_edit_inputs(text, *inputs);
-        }
-        Question::Init(inputs, line) => {
-            push_inputs(text, "init", inputs);
+        Question::Edit(asked, options) => push_asked_edit(text, asked, *options),
+        Question::Init(options, line) => {
+            push_init_options(text, "init", options);
             if let Some(line) = line {
                 write!(text, "|{line}");
             }
@@ -162,23 +161,12 @@ fn push_question(text: &mut GrowingText, question: &Question<'_>) {
 /// Pushes what words ask for.
 fn push_subcommand(text: &mut GrowingText, subcommand: Subcommand<'_>) {
     match subcommand {
-        Subcommand::Init(inputs, saving) => {
-            push_inputs(text, "init", &inputs);
+        Subcommand::Init(options, saving) => {
+            push_init_options(text, "init", &options);
             push_saving(text, saving);
         }
-        Subcommand::Edit(edit, inputs, saving) => {
-            push_edit(text, &edit);
-            push_edit_inputs(text, inputs);
-            push_saving(text, saving);
-        }
-        Subcommand::Replace(replacement, inputs, saving) => {
-            push_replacement(text, &replacement);
-            push_edit_inputs(text, inputs);
-            push_saving(text, saving);
-        }
-        Subcommand::Retarget(targets, inputs, saving) => {
-            push_new_targets(text, &targets);
-            push_edit_inputs(text, inputs);
+        Subcommand::Edit(asked, options, saving) => {
+            push_asked_edit(text, &asked, options);
             push_saving(text, saving);
         }
         Subcommand::Undo(saving) => {
@@ -193,15 +181,18 @@ fn push_subcommand(text: &mut GrowingText, subcommand: Subcommand<'_>) {
             push_beginning(text, beginning);
             push_saving(text, saving);
         }
-        Subcommand::Batch(inputs, is_all_or_none) => {
+        Subcommand::Batch {
+            options,
+            is_all_or_none,
+        } => {
             text.push_str(if is_all_or_none {
                 "batch all or none"
             } else {
                 "batch"
             });
-            push_edit_inputs(text, inputs);
+            push_edit_options(text, options);
         }
-        Subcommand::Try(inputs) => push_inputs(text, "try", &inputs),
+        Subcommand::Try(options) => push_init_options(text, "try", &options),
         Subcommand::Skipped(index) => write!(text, "skipped {index}"),
         Subcommand::Why(question, told) => {
             text.push_str("why ");
@@ -239,8 +230,8 @@ fn push_view(text: &mut GrowingText, view: Subcommand<'_>) {
             push_shown(text, shown);
             push_format(text, format);
         }
-        Subcommand::Log(long, format) => {
-            text.push_str(if long { "log long" } else { "log" });
+        Subcommand::Log { is_long, format } => {
+            text.push_str(if is_long { "log long" } else { "log" });
             push_format(text, format);
         }
         Subcommand::Diff(range, format) => {
@@ -263,12 +254,10 @@ fn push_view(text: &mut GrowingText, view: Subcommand<'_>) {
         // these are pushed before
         Subcommand::Init(_, _)
         | Subcommand::Edit(_, _, _)
-        | Subcommand::Replace(_, _, _)
-        | Subcommand::Retarget(_, _, _)
         | Subcommand::Undo(_)
         | Subcommand::Redo(_)
         | Subcommand::Forget(_, _)
-        | Subcommand::Batch(_, _)
+        | Subcommand::Batch { .. }
         | Subcommand::Try(_)
         | Subcommand::Skipped(_)
         | Subcommand::Why(_, _) => {}

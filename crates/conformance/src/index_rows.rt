@@ -5,7 +5,7 @@ use crate::environment_rows::bytes_of;
 use crate::growing_text::GrowingText;
 use crate::short_form::json_of;
 use markers::Name;
-use snapshot::{Fault, Release, ReleaseFile, Snapshot};
+use snapshot::{DistributionFile, Fault, Release, Snapshot};
 use std::alloc::Global;
 
 /// What is left out of an index: each release by its package, its place and the cause.
@@ -53,8 +53,13 @@ pub fn digest(alloc: Global, background: &Background) -> Option<String> {
     format!(in alloc; "{digest:?}").ok()
 }
 
-fn push_file(text: &mut GrowingText, file: &ReleaseFile) {
-    let (name, url, size, sha256) = (file.name(), file.url(), file.size(), file.sha256());
+fn push_file(text: &mut GrowingText, file: &DistributionFile) {
+    let DistributionFile {
+        name,
+        url,
+        size,
+        sha256,
+    } = file;
     write!(text, " {name} {url} {size} {sha256}");
 }
 

@@ -45,7 +45,7 @@ pub fn solve(alloc: Global, background: &Background, lines: &str) -> Option<Stri
         return solution_text(alloc, &problem, &versions);
     }
     let refutation = refute_by_sets(alloc, &problem, &mut Unwatched).ok()??;
-    let is_accepted = check_sets(&problem, &refutation);
+    let is_accepted = check_sets(&problem, refutation.list());
     owned(alloc, if is_accepted { "none" } else { "refused" })
 }
 

@@ -1,7 +1,7 @@
 // States and changes as they are told.
 
 use crate::growing_text::GrowingText;
-use edits::{Change, Entry, FileEntry, State, Target, TargetName};
+use edits::{Change, DistributionFile, Entry, State, Target, TargetName};
 use std::alloc::Global;
 
 /// Pushes what is asked of Python, and each name that is needed.
@@ -55,8 +55,8 @@ pub fn push_versions(text: &mut GrowingText, state: &State) {
     }
 }
 
-fn push_file(text: &mut GrowingText, file: &FileEntry) {
-    let FileEntry {
+fn push_file(text: &mut GrowingText, file: &DistributionFile) {
+    let DistributionFile {
         name,
         url,
         size,

@@ -3,7 +3,7 @@
 use crate::scenarios::calls::play;
 use crate::scenarios::data::{read_indexes, state};
 use crate::scenarios::told::Tell;
-use edits::{FileEntry, Requirement, State};
+use edits::{DistributionFile, Requirement, State};
 use pep440::{SpecifierSet, Version};
 use std::alloc::Global;
 use std::io::Write;
@@ -17,7 +17,7 @@ pub fn cloned<T: Tell + Clone, W: Write>(alloc: Global, out: &mut W, mut value: 
 const REQUIREMENT: &str = "B.b[x,y]>=1.0,!=2.* ; os_name=='posix'";
 
 /// The wheel of the first entry of a state.
-fn wheel(alloc: Global, state: &State) -> Option<FileEntry> {
+fn wheel(alloc: Global, state: &State) -> Option<DistributionFile> {
     let entry = state.targets().first()?.lock.entries().first()?;
     entry.wheels().first()?.clone().ok()
 }

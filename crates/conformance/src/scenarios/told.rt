@@ -3,7 +3,9 @@
 use crate::growing_text::GrowingText;
 use crate::state_texts::push_versions;
 use crate::targets::{bytes_of, journal_of};
-use edits::{Change, Entry, Environment, FileEntry, Line, ReqFile, Requirement, Snapshot, State};
+use edits::{
+    Change, DistributionFile, Entry, Environment, Line, ReqFile, Requirement, Snapshot, State,
+};
 use journal::{History, Plain, Reply, Resolver, Saved, Session, WholeHistory};
 use lists::Seq;
 use pep440::{SpecifierSet, Version};
@@ -102,7 +104,7 @@ impl Tell for Requirement {
     }
 }
 
-impl Tell for FileEntry {
+impl Tell for DistributionFile {
     fn tell(&self, _alloc: Global, text: &mut GrowingText) {
         write!(text, "{self:?}");
     }
