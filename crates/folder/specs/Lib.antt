@@ -1,0 +1,5 @@
+pub mod Calls
+pub mod Held
+pub mod Repairs
+pub mod Saves
+pub mod Tied
