@@ -18,8 +18,10 @@ words are no request, or the C file can't be compiled or COMMAND not be run.
 import argparse
 import itertools
 import os
+import select
 import shlex
 import shutil
+import signal
 import subprocess
 import sys
 import tempfile
@@ -29,6 +31,7 @@ from pathlib import Path
 from typing import Any
 
 SOURCE = Path(__file__).resolve().parent / "refuse_growth.c"
+LIBRARY = "refuse_growth.so"
 
 
 @dataclass(frozen=True)
@@ -65,15 +68,22 @@ def compiler() -> list[str]:
 
 def compiled(folder: str | Path) -> Path:
     """Compiles the C file into a folder, and gives the path of the library."""
-    library = Path(folder).resolve() / "refuse_growth.so"
+    library = Path(folder).resolve() / LIBRARY
     command = [*compiler(), "-shared", "-fPIC", "-O2", "-fno-builtin", "-o", str(library), str(SOURCE), "-ldl"]
     subprocess.run(command, check=True)
     return library
 
 
 def files_in(folder: Path) -> dict[str, bytes]:
-    paths = [path for path in sorted(folder.rglob("*")) if path.is_file()]
-    return {str(path.relative_to(folder)): path.read_bytes() for path in paths}
+    """What files hold, by their paths in a folder."""
+    contents = {}
+    for place, _, names in os.walk(folder):
+        for name in names:
+            path = os.path.join(place, name)
+            if os.path.isfile(path):
+                with open(path, "rb") as file:
+                    contents[os.path.relpath(path, folder)] = file.read()
+    return contents
 
 
 def run_once(
@@ -84,24 +94,50 @@ def run_once(
     variables = {**os.environ, "LD_PRELOAD": str(library), "REFUSE_GROWTH": str(number)}
     variables |= {} if mark is None else {"REFUSE_GROWTH_MARK": mark}
     variables |= {} if end is None else {"REFUSE_GROWTH_END": end}
-    with tempfile.TemporaryDirectory() as scratch, tempfile.TemporaryFile() as report:
+    with tempfile.TemporaryDirectory() as scratch:
         place = Path(scratch) / "run"
         if folder is None:
             place.mkdir()
         else:
-            shutil.copytree(folder, place, symlinks=True)
-        variables["REFUSE_GROWTH_REPORT"] = str(report.fileno())
+            shutil.copytree(folder, place, symlinks=True, copy_function=shutil.copy)
+        status, output, errors, report = ended(command, data, variables, place, seconds)
+        return Run(number, *read_report(report.decode()), status, output, errors, files_in(place))
+
+
+def ended(
+    command: Sequence[str | Path], data: bytes, variables: dict[str, str], place: Path, seconds: float
+) -> tuple[int | None, bytes, bytes, bytes]:
+    """The status of a call in a folder, None where it takes longer, and what it writes: its output, its errors and the report. All of it stands
+    in memory, which takes half the time that pipes do."""
+    here = os.open(".", os.O_RDONLY)
+    numbers = [os.memfd_create(name) for name in ("input", "output", "errors", "report")]
+    try:
+        os.pwrite(numbers[0], data, 0)
+        os.set_inheritable(numbers[3], True)
+        moves = [(os.POSIX_SPAWN_DUP2, number, stream) for stream, number in enumerate(numbers[:3])]
+        variables = {**variables, "REFUSE_GROWTH_REPORT": str(numbers[3])}
+        os.chdir(place)
         try:
-            done = subprocess.run(
-                command, input=data, env=variables, cwd=place, capture_output=True, timeout=seconds, check=False,
-                pass_fds=[report.fileno()],
-            )
-            status: int | None = done.returncode
-            output, errors = done.stdout, done.stderr
-        except subprocess.TimeoutExpired as ended:
-            status, output, errors = None, ended.stdout or b"", ended.stderr or b""
-        report.seek(0)
-        return Run(number, *read_report(report.read().decode()), status, output, errors, files_in(place))
+            child = os.posix_spawnp(command[0], tuple(command), variables, file_actions=moves, setsigdef=(signal.SIGPIPE, signal.SIGXFSZ))
+        finally:
+            os.fchdir(here)
+        status = waited(child, seconds)
+        output, errors, report = (os.pread(number, os.fstat(number).st_size, 0) for number in numbers[1:])
+        return status, output, errors, report
+    finally:
+        for number in (here, *numbers):
+            os.close(number)
+
+
+def waited(child: int, seconds: float) -> int | None:
+    """The status of a process, as Python's subprocess tells it; None where it doesn't end in time, and is ended."""
+    watched = os.pidfd_open(child)
+    has_ended = bool(select.select([watched], [], [], seconds)[0])
+    os.close(watched)
+    if not has_ended:
+        os.kill(child, signal.SIGKILL)
+    status = os.waitstatus_to_exitcode(os.waitpid(child, 0)[1])
+    return status if has_ended else None
 
 
 def read_report(text: str) -> tuple[str | None, int | None]:

@@ -40,6 +40,8 @@ class Word:
 
     text: str
     arity: int
+    # the constructor that it is, where it is one
+    made: str = ""
 
     def value(self) -> str:
         return self.text + (VALUE if self.arity else "")
@@ -137,6 +139,8 @@ class Writer:
             return self.expression(given[0], own)
         arguments = [self.expression(argument, own) for argument in given]
         word = self.called(function[1], own) if function[0] == "name" else None
+        if word is not None and word.made:
+            return f'Made("{word.made}", ({", ".join(arguments)},))'
         if word is None or not 0 < word.arity <= len(given):
             return f"{self.expression(function, own)}({', '.join(arguments)})"
         rest = arguments[word.arity :]
@@ -159,7 +163,7 @@ class Writer:
 
     def named(self, named: Named) -> Word:
         if named.kind == "constructor":
-            return Word(f'Made("{named.name}")', 0)
+            return Word(f'Made("{named.name}")', 0, named.name)
         if named.kind == "library":
             return library_word(named)
         return self.calls(named.module, named.name)
@@ -220,10 +224,49 @@ class Writer:
         lines = [f"def {name}({', '.join(arguments)}):"]
         if arity == 0:
             return lines[0] + f"\n    return {self.expression(function.clauses[0][1], frozenset())}\n"
+        plain_clauses = [self.plain_clause(*clause) for clause in function.clauses]
+        if None not in plain_clauses:
+            return "\n".join([*lines, *(line for clause in plain_clauses for line in clause or [])]) + "\n"
         lines.append(f"    match ({', '.join(arguments)},):")
         for patterns, body in function.clauses:
             lines += self.clause(patterns, body)
         return "\n".join(lines) + "\n"
+
+    def plain_clause(self, patterns: list[Any], body: Any) -> list[str] | None:
+        """A clause whose patterns are names, lists and constructors of names, as an `if`, which is sooner done than a `case`; None for another."""
+        conditions: list[str] = []
+        bindings: list[str] = []
+        for number, pattern in enumerate(patterns):
+            test = self.plain_test(pattern, f"given_{number}", bindings)
+            if test is None:
+                return None
+            conditions += [test] * bool(test)
+        own = frozenset(name for pattern in patterns for name in self.names_in(pattern))
+        lines = [*bindings, f"return {self.expression(body, own)}"]
+        if not conditions:
+            return [f"    {line}" for line in lines]
+        return [f"    if {' and '.join(conditions)}:", *(f"        {line}" for line in lines)]
+
+    def plain_test(self, pattern: Any, given: str, bindings: list[str]) -> str | None:
+        """What tests whether a value is of a pattern, empty where each is; None where the pattern isn't plain. What it names is bound."""
+        if pattern[0] == "list":
+            return f"not {given}"
+        if pattern[0] == "cons" and self.is_name(pattern[1]) and self.is_name(pattern[2]):
+            bindings.append(f"{plain(pattern[1][1])}, {plain(pattern[2][1])} = {given}[0], {given}[1:]")
+            return given
+        if self.is_name(pattern):
+            bindings.append(f"{plain(pattern[1])} = {given}")
+            return ""
+        word, inner = (pattern[1][1], pattern[2]) if pattern[0] == "constructor" else (pattern[1], [])
+        made = self.constructor(word) if pattern[0] in ("constructor", "name") else None
+        if made in (None, "suc") or not all(map(self.is_name, inner)):
+            return None
+        bindings += [f"({', '.join(plain(name[1]) for name in inner)},) = {given}.parts"] if inner else []
+        return f'{given}.name == "{made}"'
+
+    def is_name(self, pattern: Any) -> bool:
+        """Whether a pattern is a name for whatever stands there."""
+        return bool(pattern[0] == "name" and self.bound(pattern[1]) == plain(pattern[1]) and self.constructor(pattern[1]) is None)
 
     def clause(self, patterns: list[Any], body: Any) -> list[str]:
         tails: list[str] = []

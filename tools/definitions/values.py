@@ -58,10 +58,11 @@ class Function:
 
     def __call__(self, *more: Any) -> Any:
         given = self.given + more
+        if len(given) == self.arity:
+            return self.body(*given)
         if len(given) < self.arity:
             return Function(self.arity, self.body, given)
-        result = self.body(*given[: self.arity])
-        return result(*given[self.arity :]) if len(given) > self.arity else result
+        return self.body(*given[: self.arity])(*given[self.arity :])
 
 
 NONE = Made("None")

@@ -1,5 +1,6 @@
 """The commands that an installed wheel has, and what the scripts of a checkout run. Each is a module's `main`."""
 
+import gc
 import importlib
 import os
 import sys
@@ -10,11 +11,14 @@ from reqlock_tools.names import tool
 FAILED, UNWRITTEN, STOPPED = 1, 5, 130
 # What the tools are written for. This module and `names` are read by older ones too, from 3.6 on, so that they can tell it.
 OLDEST = 3, 11
+# How many new objects there are before Python looks for garbage. A call has much that stays, as an index, and little else.
+OBJECTS = 50_000
 
 
 def call(module: str) -> int:
     """The status of a tool. An output that nobody reads any more ends it without a word, one that can't be written is told, and so is
     Ctrl-C. Where an answer couldn't be written rql has the program's status."""
+    gc.set_threshold(OBJECTS)
     unwritten = UNWRITTEN if module == "rql" else FAILED
     if sys.version_info < OLDEST:
         print(f"{tool(module)}: Python {OLDEST[0]}.{OLDEST[1]} or later is needed, and this is {sys.version.split()[0]}", file=sys.stderr)

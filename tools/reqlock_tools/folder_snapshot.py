@@ -12,7 +12,7 @@ from reqlock_tools.limits import limits_of
 from reqlock_tools.markers import Markers
 from reqlock_tools.progress import Progress
 from reqlock_tools.refusal import Refusal, Say
-from reqlock_tools.releases import release_of
+from reqlock_tools.releases import snapshot_release
 from reqlock_tools.snapshot_output import Packages, say
 from reqlock_tools.versions import normal
 from reqlock_tools.walk import Walk, extras_text
@@ -91,7 +91,7 @@ def package_of(documents: list[Document], assume_none: bool) -> dict[str, object
     releases, unknown = [], dict[str, list[str]]()
     for version in dict.fromkeys([*listed, *own]):
         files, path = listed.get(version) or (own[version].files, own[version].path)
-        release = release_of(version, own.get(version), files, saying(f"{path}: {name} {version}"))
+        release = snapshot_release(version, own.get(version), files, saying(f"{path}: {name} {version}"))
         if release["files"] and release["requires_dist"] is None and not assume_none:
             unknown.setdefault(path, []).append(version)
         else:

@@ -83,7 +83,7 @@ def read_package(package: dict[str, Any]) -> Package:
     return Package(name, version, hashes_of(package, name), [want(dependency, str, f"{name}: dependencies") for dependency in dependencies])
 
 
-def read_lock(text: str) -> tuple[list[str], dict[str, Package]]:
+def read_locked_packages(text: str) -> tuple[list[str], dict[str, Package]]:
     """The markers of the lock's environments, and its packages by name."""
     lock = read_toml(text)
     version = want(lock.get("lock-version"), str, "lock-version")
@@ -128,7 +128,7 @@ def main(words: list[str]) -> int:
         say(fault_text(fault))
         return 1
     try:
-        text = requirements_text(*read_lock(data.decode()))
+        text = requirements_text(*read_locked_packages(data.decode()))
     except (Refusal, UnicodeDecodeError) as fault:
         say(f"{options.lock}: {fault}")
         return 1

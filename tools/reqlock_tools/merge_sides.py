@@ -1,6 +1,6 @@
 """The two sides of a merge: what their journals tell, and whether they are of one history."""
 
-import hashlib
+import importlib
 import json
 import re
 from typing import Any, NamedTuple
@@ -20,7 +20,8 @@ def lock_name(target: str) -> str:
 
 
 def digest_of(data: bytes) -> str:
-    return hashlib.sha256(data).hexdigest()
+    digest: str = importlib.import_module("hashlib").sha256(data).hexdigest()  # (many calls need none)
+    return digest
 
 
 class Journal(NamedTuple):

@@ -42,7 +42,7 @@ def common_python(told: list[str | None], say_of: Say) -> str | None:
     return joined
 
 
-def release_of(version: str, own: Document | None, files: list[File], say_of: Say) -> Release:
+def snapshot_release(version: str, own: Document | None, files: list[File], say_of: Say) -> Release:
     """The release as the snapshot has it. Its requires_dist is None where no document tells it."""
     kept, yanked = kept_files(files, bool(own and own.yanked), say_of)
     texts = [own.requires_python if own else None, *(file.requires_python for file in kept)]

@@ -11,6 +11,7 @@ from pathlib import Path
 from reqlock_tools.environment import PLATFORMS, SYSTEMS, Refused, described_environment, own_environment
 from reqlock_tools.refusal import speaker
 from reqlock_tools.rql.faults import SettingsFault
+from reqlock_tools.rql.pip_files import may_be_configured
 
 PIP = sys.executable, "-m", "pip"
 VARIABLES_OF_INDEXES = "PIP_INDEX_URL", "UV_INDEX_URL", "UV_DEFAULT_INDEX"
@@ -28,21 +29,26 @@ def pip_told(*words: str) -> str:
     return done.stdout if done.returncode == 0 else ""
 
 
-def configured(key: str) -> str | None:
+def pip_configuration() -> str:
+    """What pip has in the files of its configuration."""
+    return pip_told("config", "list") if may_be_configured(sys.prefix) else ""
+
+
+def configured(key: str, of_pip: str) -> str | None:
     """What pip's configuration has at a key, as index-url; None where it has nothing."""
-    values = re.findall(rf"(?m)^(?:global|install)\.{key}=(.*)$", pip_told("config", "list"))
+    values = re.findall(rf"(?m)^(?:global|install)\.{key}=(.*)$", of_pip)
     try:
         return str(ast.literal_eval(values[-1])) if values else None
     except (SyntaxError, ValueError):
         return None
 
 
-def index_of_pip() -> tuple[str, str]:
+def index_of_pip(of_pip: str) -> tuple[str, str]:
     """The index that pip asks, and what says so."""
     for variable in VARIABLES_OF_INDEXES:
         if os.environ.get(variable):
             return os.environ[variable], variable
-    told = configured("index-url")
+    told = configured("index-url", of_pip)
     if told:
         return told, "pip's configuration"
     default = DEFAULT.search(" ".join(pip_told("install", "--help").split()))
@@ -77,13 +83,14 @@ def indexes(given: tuple[str, ...], base: Path) -> tuple[str, ...]:
 
     others = other_indexes(base)
     default = default_of(others)
-    url, origin = default or index_of_pip()
+    of_pip = "" if default else pip_configuration()
+    url, origin = default or index_of_pip(of_pip)
     index = plain_index(url, origin)
     say(f"index {index}, as {origin} says")
     tell_others(others, index)
     if default is not None:
         return (index,)
-    if os.environ.get("PIP_EXTRA_INDEX_URL") or configured("extra-index-url"):
+    if os.environ.get("PIP_EXTRA_INDEX_URL") or configured("extra-index-url", of_pip):
         say("pip's extra index isn't taken over, since pip mixes what indexes have: give all by --index URL, in order")
     return (index,)
 

@@ -62,7 +62,7 @@ class Edit:
 
     def __init__(self, project: Project, kept: Kept, request: EditRequest, is_pending: bool = False) -> None:
         self.project, self.kept, self.is_pending = project, kept, is_pending
-        self.request = replace(request, pins=tuple(handed_over(kept, pins, number) for number, pins in enumerate(request.pins)))
+        self.request = request._replace(pins=tuple(handed_over(kept, pins, number) for number, pins in enumerate(request.pins)))
         self.caller = Caller(project.options)
         self.index = self.fresh_index()
         self.caller.lacking = self.lacking

@@ -35,8 +35,8 @@ def exported(project: Project, kept: Kept, caller: Caller, export: ExportSetting
         if answer.status == 0 and not answer.errors:
             caller.tell([caller.program, *words])
             return FIRST_LINE + answer.output
-        if found := APART.search(answer.errors):
-            return found[1].decode(errors="replace") + ", or have exports in the settings name a target" * bool(found[2])
+        if apart := APART.search(answer.errors):
+            return apart[1].decode(errors="replace") + ", or have exports in the settings name a target" * bool(apart[2])
     return GONE
 
 

@@ -10,7 +10,7 @@ from reqlock_tools.refusal import speaker
 from reqlock_tools.rql.compiled import read_text
 from reqlock_tools.rql.draft import project_table
 from reqlock_tools.rql.settings import PROJECT_FILE
-from reqlock_tools.toml import table_at, value_at
+from reqlock_tools.toml import table_at
 
 # What each priority of Poetry is for.
 PRIORITIES: dict[object, "Kind"] = {"supplemental": "behind", "secondary": "behind", "explicit": "bound"}

@@ -3,7 +3,6 @@
 import importlib
 import shlex
 from contextlib import suppress
-from dataclasses import replace
 from itertools import takewhile
 from pathlib import Path
 
@@ -113,7 +112,7 @@ def answered(project: Project, index: Path, caller: Caller, given: list[str], re
 def with_told(options: Options, words: tuple[str, ...]) -> Options:
     """The options, with what the program's words ask for of telling."""
     is_quiet, is_verbose = (not {short, long}.isdisjoint(words) for short, long in (("-q", "--quiet"), ("-v", "--verbose")))
-    return replace(options, is_quiet=options.is_quiet or is_quiet, is_verbose=options.is_verbose or is_verbose)
+    return options._replace(is_quiet=options.is_quiet or is_quiet, is_verbose=options.is_verbose or is_verbose)
 
 
 def asked_index(project: Project, kept: Kept, request: PassedRequest) -> Path:

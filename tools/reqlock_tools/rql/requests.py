@@ -1,10 +1,9 @@
-"""What the words of rql ask for: one frozen dataclass for each kind of call."""
+"""What the words of rql ask for: one tuple with names for each kind of call, which is sooner made than a dataclass."""
 
-from dataclasses import dataclass
+from typing import NamedTuple
 
 
-@dataclass(frozen=True)
-class Options:
+class Options(NamedTuple):
     """What counts for each call: where it begins to look for settings, and how it asks and tells. How long an answer is waited for, and how
     often a request is tried again, is None where nobody typed it."""
 
@@ -23,8 +22,7 @@ class Options:
         return [word for option, value in told.items() if value is not None for word in (option, str(value))]
 
 
-@dataclass(frozen=True)
-class InitRequest:
+class InitRequest(NamedTuple):
     """Begin a project: settings, environments, index and lock. `pinned` are files whose pins are kept."""
 
     indexes: tuple[str, ...]
@@ -33,8 +31,7 @@ class InitRequest:
     pinned: tuple[str, ...]
 
 
-@dataclass(frozen=True)
-class EditRequest:
+class EditRequest(NamedTuple):
     """An edit: `word` is add, remove, constrain, set, upgrade, relock or retarget, and `texts` is what stands behind it. `pins` are files whose
     pins a new target begins with, each as FILE or NAME=FILE."""
 
@@ -45,15 +42,13 @@ class EditRequest:
     pins: tuple[str, ...] = ()
 
 
-@dataclass(frozen=True)
-class LockRequest:
+class LockRequest(NamedTuple):
     """Have the lock fit the lines again, or tell whether it does."""
 
     is_check: bool
 
 
-@dataclass(frozen=True)
-class SyncRequest:
+class SyncRequest(NamedTuple):
     """Have a virtual environment hold exactly what is locked."""
 
     venv: str | None
@@ -63,23 +58,20 @@ class SyncRequest:
     is_dry: bool
 
 
-@dataclass(frozen=True)
-class CheckRequest:
+class CheckRequest(NamedTuple):
     """Tell whether all belongs together, and with `is_current` whether a relock over today's index changes nothing."""
 
     is_current: bool
     is_json: bool
 
 
-@dataclass(frozen=True)
-class IndexRequest:
+class IndexRequest(NamedTuple):
     """Make the index anew, with these names too."""
 
     names: tuple[str, ...]
 
 
-@dataclass(frozen=True)
-class EnvRequest:
+class EnvRequest(NamedTuple):
     """Change or list the environments: `word` is add, set, remove or list, and `name` is None where nobody typed one. `retarget` is the edit
     that has the history follow."""
 
@@ -90,8 +82,7 @@ class EnvRequest:
     retarget: EditRequest
 
 
-@dataclass(frozen=True)
-class PassedRequest:
+class PassedRequest(NamedTuple):
     """A call of the program, or of a tool, with the words that stand behind its name."""
 
     word: str

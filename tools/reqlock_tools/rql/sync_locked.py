@@ -5,7 +5,7 @@ from dataclasses import dataclass
 from pathlib import Path
 from typing import Any
 
-from reqlock_tools.hashed_requirements import Package, read_lock, tables, want
+from reqlock_tools.hashed_requirements import Package, read_locked_packages, tables, want
 from reqlock_tools.refusal import Refusal
 from reqlock_tools.rql.faults import SettingsFault
 from reqlock_tools.tags import tags_of, takes
@@ -69,7 +69,7 @@ def files_of(table: dict[str, Any], name: str) -> list[LockedFile]:
 def read_locked(path: Path, text: str, environment: Mapping[str, object]) -> dict[str, Locked]:
     """The packages of a lock by name, with the files that an environment takes. A package without any is refused."""
     try:
-        packages = read_lock(text)[1]
+        packages = read_locked_packages(text)[1]
         files = {package["name"]: files_of(package, package["name"]) for package in read_toml(text)["packages"]}
     except Refusal as fault:
         raise SettingsFault(f"{path}: {fault}") from None

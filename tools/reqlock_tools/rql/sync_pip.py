@@ -19,6 +19,7 @@ from types import FrameType
 
 from reqlock_tools.rql.calls import tell_call
 from reqlock_tools.rql.faults import STOPPED, SettingsFault
+from reqlock_tools.rql.pip_files import may_be_configured
 from reqlock_tools.rql.sync_installed import Environment
 from reqlock_tools.rql.sync_locked import Locked
 from reqlock_tools.simple.plan import IndexAddress
@@ -29,7 +30,7 @@ WAYS = (
     "cache-dir", "cert", "client-cert", "default-timeout", "no-cache-dir", "proxy", "resume-retries", "retries", "timeout", "trusted-host",
     "use-deprecated", "use-feature",
 )
-CONFIGURED = re.compile(r"(?:global|install|:env:)\.([a-z-]+)=(.*)")
+CONFIGURED = re.compile(r"(?:global|install)\.([a-z-]+)=(.*)")
 SECONDS = 60
 # From this pip on, one can work in the environment of another Python.
 FOREIGN = 22, 3
@@ -87,14 +88,24 @@ def heeds_netrc(environment: Environment) -> bool:
     return version is None or version >= version_of(HEEDING)
 
 
+def variable_of(option: str) -> str:
+    return f"PIP_{option.upper().replace('-', '_')}"
+
+
 def variables_for(pip: Sequence[str], environment: Environment, netrc: Path) -> dict[str, str]:
-    """The variables of a call of pip. Of its configuration the way to the index alone is taken over."""
+    """The variables of a call of pip. Of its configuration the way to the index alone is taken over: of its files, and of variables, which
+    count more."""
     variables = {name: value for name, value in os.environ.items() if not name.startswith(("PIP_", "PYTHON"))}
-    for line in (asked([*pip, "config", "list"]) or "").splitlines():
+    configuration = asked([*pip, "config", "list"]) if may_be_configured(str(environment.place)) else None
+    for line in (configuration or "").splitlines():
         told = CONFIGURED.fullmatch(line)
         if told is not None and told[1] in WAYS:
             with contextlib.suppress(ValueError, SyntaxError):
-                variables[f"PIP_{told[1].upper().replace('-', '_')}"] = str(ast.literal_eval(told[2]))
+                variables[variable_of(told[1])] = str(ast.literal_eval(told[2]))
+    for name, value in os.environ.items():
+        option = name.removeprefix("PIP_").lower().replace("_", "-")
+        if name.startswith("PIP_") and option in WAYS:
+            variables[variable_of(option)] = value
     if not heeds_netrc(environment):
         variables.setdefault("XDG_CACHE_HOME", os.path.expanduser("~/.cache"))
         variables["HOME"] = str(netrc.parent)

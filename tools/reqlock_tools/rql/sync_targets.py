@@ -5,7 +5,7 @@ from collections.abc import Mapping
 from dataclasses import dataclass
 from pathlib import Path
 
-from reqlock_tools.hashed_requirements import read_lock
+from reqlock_tools.hashed_requirements import read_locked_packages
 from reqlock_tools.markers import Comparison, Junction, Tree, tree_of
 from reqlock_tools.merge_sides import JOURNAL, digest_of, lock_name, read_journal
 from reqlock_tools.refusal import Refusal
@@ -84,7 +84,7 @@ def told_targets(folder: Path) -> list[Target]:
             continue
         text = text_of(path, content(path))
         try:
-            markers = read_lock(text)[0]
+            markers = read_locked_packages(text)[0]
         except Refusal as fault:
             raise SettingsFault(f"{path}: {fault}") from None
         targets += [Target(name[1] or "", path, text, told_by(path, marker)) for marker in markers]

@@ -65,7 +65,7 @@ class Change:
         request = self.request
         if request.word != "add":
             return request.retarget
-        return replace(request.retarget, pins=tuple(pins if "=" in pins else f"{request.name}={pins}" for pins in request.retarget.pins))
+        return request.retarget._replace(pins=tuple(pins if "=" in pins else f"{request.name}={pins}" for pins in request.retarget.pins))
 
     def changed(self) -> tuple[EnvironmentSetting, ...]:
         """The environments that there are to be."""

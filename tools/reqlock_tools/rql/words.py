@@ -1,6 +1,6 @@
 """Words of other tools, and words that are mistyped: what rql has in their place."""
 
-import difflib
+import importlib
 from collections.abc import Iterable, Sequence
 
 ADDED = "put the lines into requirements.txt, or into the file that sources in the settings names, and then: rql lock"
@@ -55,11 +55,17 @@ OPTIONS = {
 }
 
 
+def nearest(word: str, words: Sequence[str]) -> list[str]:
+    """The one of words that is most like another, where one is. (What compares them is read for a mistake alone.)"""
+    near: list[str] = importlib.import_module("difflib").get_close_matches(word, words, 1)
+    return near
+
+
 def in_place_of_command(word: str, commands: Iterable[str]) -> str:
     """What to type in the place of a command that there isn't."""
     if word in COMMANDS:
         return COMMANDS[word]
-    near = difflib.get_close_matches(word, [*commands, *COMMANDS], 1)
+    near = nearest(word, [*commands, *COMMANDS])
     if not near:
         return "rql --help names all"
     return COMMANDS.get(near[0], f"rql {near[0]}?")
@@ -69,7 +75,7 @@ def in_place_of_kind(word: str, kinds: Iterable[str]) -> str:
     """What to type in the place of a word behind `env` that there isn't."""
     if word in KINDS:
         return KINDS[word]
-    near = difflib.get_close_matches(word, list(kinds), 1)
+    near = nearest(word, list(kinds))
     return f"rql env {near[0]}?" if near else "rql env --help names all"
 
 

@@ -8,7 +8,7 @@ from fnmatch import fnmatchcase
 
 from reqlock_tools.archives import LONGEST_NAME, ArchivedRelease, plain, release_of_archives
 from reqlock_tools.refusal import Refusal
-from reqlock_tools.releases import Release, release_of
+from reqlock_tools.releases import Release, snapshot_release
 from reqlock_tools.simple import known
 from reqlock_tools.simple.addresses import Unfetched, plain_url, without_passwords
 from reqlock_tools.simple.cache import Beside, Cache
@@ -38,7 +38,7 @@ def put_release(read: ReadRelease, told: ArchivedRelease, links: list[Link]) -> 
             link.file.requires_python = None
     told.yanked = all(link.file.yanked for link in links)
     files = [link.file for link in links]
-    release = release_of(told.version, told, files, lambda text: read.notes.append(f"{told.version}: {text}"))
+    release = snapshot_release(told.version, told, files, lambda text: read.notes.append(f"{told.version}: {text}"))
     read.release = release if release["files"] else None
 
 

@@ -21,8 +21,8 @@ class TooLong(Exception):
 class Exchange:
     """A request with its answer, and the sockets that it goes over."""
 
-    def __init__(self, end: float) -> None:
-        self.end, self.is_over = end, False
+    def __init__(self, deadline: float) -> None:
+        self.deadline, self.is_over = deadline, False
         self.sockets: list[socket.socket] = []
 
     def stop(self) -> None:
@@ -44,18 +44,18 @@ class Watch:
 
     def look(self) -> None:
         while not self.stopped.wait(SECONDS_BETWEEN_LOOKS):
-            self.stop_those(time.monotonic())
+            self.stop_overdue(time.monotonic())
 
-    def stop_those(self, until: float) -> None:
+    def stop_overdue(self, now: float) -> None:
         with self.lock:
             for exchange in self.under_way:
-                if exchange.end <= until:
+                if exchange.deadline <= now:
                     exchange.stop()
 
     def stop(self) -> None:
         """Stops all, from now on."""
         self.stopped.set()
-        self.stop_those(float("inf"))
+        self.stop_overdue(float("inf"))
 
     @contextmanager
     def exchange(self) -> Iterator[None]:
