@@ -1,5 +1,6 @@
 """What pytest is told of the tests: their marks, and which of them run one behind the other in the same process."""
 
+import gc
 import signal
 import threading
 import unittest
@@ -25,6 +26,12 @@ def pytest_report_header():
 def pytest_terminal_summary(terminalreporter):
     if terminalreporter.stats.get("failed"):
         terminalreporter.write_line(f"what is drawn is drawn so again: {told_seed()}")
+
+
+def pytest_collection_finish():
+    """What was read stays to the end: nobody looks for garbage in it any more, here and in copies of this process."""
+    gc.collect()
+    gc.freeze()
 
 
 def begins_once(test_class: type) -> bool:

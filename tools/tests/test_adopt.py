@@ -56,9 +56,9 @@ class Adopt(Program):
     def check_adopts(self, source, pins, locked, said="", status=0):
         """The folder has the source to the byte and these versions, and the program takes it."""
         shutil.rmtree(self.outside / "new", ignore_errors=True)
-        found, output, errors = self.adopt(source, pins)
+        exit_status, output, errors = self.adopt(source, pins)
         told, count = re.fullmatch(r"((?:.*\n)*)([0-9]+) of [0-9]+ pins are taken over\n", errors).groups()
-        self.assertEqual((found, output, told), (status, "ok 0\n", said))
+        self.assertEqual((exit_status, output, told), (status, "ok 0\n", said))
         self.assertEqual(int(count), sum(f"{name} " not in said for name in locked))
         self.assertEqual(sorted(path.name for path in (self.outside / "new").iterdir()), sorted(FILES))
         self.assertEqual((self.outside / "new" / FILES[0]).read_bytes(), source)
@@ -226,7 +226,8 @@ class PageOfRql(Served):
         for line in block.splitlines():
             self.accepts(*line.split()[1:], answer="ok 0\n")
         self.assertIn("flask==1 \\", self.lines())
-        self.assertEqual(sorted(it.name for it in (self.folder / "locks").iterdir()), ["pylock.toml", "reqlock.journal", "requirements.txt"])
+        names = sorted(path.name for path in (self.folder / "locks").iterdir())
+        self.assertEqual(names, ["pylock.toml", "reqlock.journal", "requirements.txt"])
 
 
 if __name__ == "__main__":

@@ -22,8 +22,8 @@ class Advice(Checkouts):
 
     def advised(self, word, status=4, words=("check",)):
         """What a call is told behind its fault, which has this word."""
-        found, output, told = self.told(*words, "-v")
-        self.assertEqual((found, output), (status, ""))
+        exit_status, output, told = self.told(*words, "-v")
+        self.assertEqual((exit_status, output), (status, ""))
         fault, _, rest = told.partition("\n")
         self.assertIn(word, fault)
         return rest
@@ -184,7 +184,7 @@ class WithoutTheJournal(Advice):
     def check_older(self, told):
         """The commit that is told has the journal, and who begins anew keeps what is locked."""
         locked = self.locked()
-        log = next(it for it in self.commands(told) if " log " in it)
+        log = next(command for command in self.commands(told) if " log " in command)
         commit = self.follow(log).strip()
         self.assertEqual(self.git("show", f"{commit}:./reqlock.journal").encode(), (self.folder / "reqlock.journal").read_bytes())
         self.assertEqual(self.git("rev-parse", "--short", "HEAD~1").strip(), commit)
@@ -216,7 +216,7 @@ class WithoutTheJournal(Advice):
                 told = self.advised("files-disagree")
                 self.git("reset", "--hard", "--quiet")
                 self.git("stash", "pop", "--quiet")
-                self.follow(next(it for it in self.commands(told) if " add " in it))
+                self.follow(next(command for command in self.commands(told) if " add " in command))
                 self.check_whole(1)
 
     def test_that_the_tool_says_so_too(self):

@@ -19,7 +19,7 @@ class Archives(Folder):
     def versions(self, *words):
         """The versions by package, and the lines of standard error."""
         packages, lines = self.made({}, *words)
-        return {it["name"]: [release["version"] for release in it["releases"]] for it in packages}, lines
+        return {package["name"]: [release["version"] for release in package["releases"]] for package in packages}, lines
 
     def check_refused_here(self, fault):
         self.check_refused({}, fault)
@@ -54,7 +54,7 @@ class Reading(Archives):
         packages, lines = self.made({})
         [release] = packages[0]["releases"]
         self.assertEqual((release["requires_dist"], lines), (["b>=1"], []))
-        self.assertEqual([it["name"] for it in release["files"]], ["a-1.tar.gz", "a-1.zip"])
+        self.assertEqual([archive["name"] for archive in release["files"]], ["a-1.tar.gz", "a-1.zip"])
 
     def test_reads_the_folder_and_those_below_beside_documents(self):
         wheel(self.folder / "x" / "y", "a", "1")
@@ -89,7 +89,7 @@ class Agreement(Archives):
         release, lines = self.release({})
         self.assertEqual((release["version"], release["requires_python"]), ("1.0", ">=3.8"))
         self.assertEqual(release["requires_dist"], ["B<2,>=1;os_name==\"nt\"", "c"])
-        self.assertEqual([it["name"] for it in release["files"]], ["a-1.0-py3-none-any.whl", "a-1.0.0.tar.gz"])
+        self.assertEqual([archive["name"] for archive in release["files"]], ["a-1.0-py3-none-any.whl", "a-1.0.0.tar.gz"])
         self.assertEqual(lines, ["no document tells of these packages, which others depend on: b c"])
 
     def check_left_out(self, difference):
@@ -128,7 +128,7 @@ class Agreement(Archives):
         wanted = [f"a-{version}.tar.gz: a: left out, as no document tells their requires_dist: {version}" for version in "12"]
         self.assertEqual(self.versions(), ({"a": ["3"]}, wanted))
         packages, _ = self.made({}, "--assume-no-dependencies")
-        self.assertEqual([it["requires_dist"] for it in packages[0]["releases"]], [["b"], [], []])
+        self.assertEqual([release["requires_dist"] for release in packages[0]["releases"]], [["b"], [], []])
 
     def test_asks_a_document_for_dependencies_that_no_archive_tells(self):
         sdist(self.folder, "a", "1", "b", metadata="2.1", python=">=2")
@@ -136,14 +136,14 @@ class Agreement(Archives):
         for words in [], ["--assume-no-dependencies"]:
             release, _ = self.release({}, *words)
             self.assertEqual((release["requires_dist"], release["requires_python"]), (["c"], ">=3"))
-            self.assertEqual([it["name"] for it in release["files"]], ["a-1.tar.gz"])
+            self.assertEqual([archive["name"] for archive in release["files"]], ["a-1.tar.gz"])
 
     def test_takes_a_release_that_has_archives_from_these_alone(self):
         wheel(self.folder, "a", "1", "b")
         listed = {"1": [file("a-1.zip")], "2": [file("a-2.zip")]}
         self.write({"a.json": body("2", name="A", releases=listed), "1.json": body("1", requires_dist=["c"])})
         packages, _ = self.made({})
-        releases = {it["version"]: (it["requires_dist"], len(it["files"])) for it in packages[0]["releases"]}
+        releases = {release["version"]: (release["requires_dist"], len(release["files"])) for release in packages[0]["releases"]}
         self.assertEqual(releases, {"1": (["b"], 1), "2": ([], 1)})
 
     def test_asks_documents_whether_a_release_is_yanked(self):
@@ -154,7 +154,7 @@ class Agreement(Archives):
         }
         self.write({"a.json": body("4", releases=listed), "5.json": body("5", yanked=True), "3.json": body("3", [file()])})
         packages, _ = self.made({})
-        yanked = {it["version"] for it in packages[0]["releases"] if it["yanked"]}
+        yanked = {release["version"] for release in packages[0]["releases"] if release["yanked"]}
         self.assertEqual(yanked, {"1", "5"})
 
     def test_refuses_a_document_with_another_digest(self):

@@ -71,11 +71,11 @@ class Told(Changed):
         status, text, errors = self.bare("log", "--json")
         self.assertEqual((status, errors), (0, self.said(STEPS)))
         told = [json.loads(line) for line in text.splitlines()]
-        self.assertEqual([(it["step"], it["current"], it["told"], it["requirements_changed"]) for it in told], [
+        self.assertEqual([(step["step"], step["current"], step["told"], step["requirements_changed"]) for step in told], [
             (0, False, "init", True), (1, False, "add b", True), (2, True, "constrain a", True), (3, False, "upgrade a", True),
         ])
         splices = {"line": 3, "old": [], "new": ["b\n"]}, {"line": 2, "old": ["a<2\n"], "new": ["a\n"]}
-        self.assertEqual([it.get("lines") for it in told], [None, [splices[0]], [splices[1]], []])
+        self.assertEqual([step.get("lines") for step in told], [None, [splices[0]], [splices[1]], []])
 
     def test_differences(self):
         added, moved, gone = self.each("+ b 1\n"), self.each("a 1 -> 2\n"), self.each("- b 1\n")
@@ -90,7 +90,8 @@ class Told(Changed):
         told = json.loads(text)
         self.assertEqual((told["from"], told["to"], told["index"], told["requirements_changed"]), (0, 2, None, True))
         self.assertEqual(told["lines"], [{"line": 2, "old": ["a<2\n"], "new": ["a\n", "b\n"]}])
-        self.assertEqual([(it["target"], it["name"], it["old"]) for it in told["entries"]], [(name, "b", None) for name in sorted(self.environments)])
+        entries = [(entry["target"], entry["name"], entry["old"]) for entry in told["entries"]]
+        self.assertEqual(entries, [(name, "b", None) for name in sorted(self.environments)])
         self.refuses(["diff", "4"], ["diff", "0", "4"], answer=(2, "", "reqlock: the history has no place 4\n"))
 
     def test_the_lock(self):
@@ -113,9 +114,10 @@ class Told(Changed):
             status, text, errors = self.bare("show", *words)
             self.assertEqual((status, errors), (0, self.said(WITH_LINES)))
             told = json.loads(text)
-            self.assertEqual((told["requirements_changed"], [it["target"] for it in told["targets"]]), (True, sorted(self.environments)))
+            names = [target["target"] for target in told["targets"]]
+            self.assertEqual((told["requirements_changed"], names), (True, sorted(self.environments)))
             for target in told["targets"]:
-                asked = {it["entry"]["name"]: it["asked_by"] for it in target["entries"]}
+                asked = {row["entry"]["name"]: row["asked_by"] for row in target["entries"]}
                 self.assertEqual(asked["b"], [{"line": 1, "requirement": "b", "text": "b  # first"}])
         told = json.loads(self.bare("show", "--tree", "--json")[1])
         self.assertTrue(told["requirements_changed"])

@@ -100,7 +100,7 @@ class Readings(unittest.TestCase):
             (checker.read_requirement, read_requirement, REQUIREMENT_TEXTS), (checker.read_line, read_line, LINE_TEXTS),
         ):
             for text in texts:
-                ours, wanted = ([answer(it, text)] if answer(it, text) or is_blank(it, text) else None for it in (read, theirs))
+                ours, wanted = ([answer(reader, text)] if answer(reader, text) or is_blank(reader, text) else None for reader in (read, theirs))
                 self.assertEqual(ours is None, wanted is None, ascii(text))
                 if wanted and wanted[0]:
                     extras = [extra for _, extra in ours[0].nodes[1:]]
@@ -256,7 +256,7 @@ class Drawn(Program):
         """How many refutations come of a drawn index and file, at most so many."""
         for path in self.folder.iterdir():
             path.unlink()
-        index, text, found = json.dumps(draw.index()).encode(), draw.requirements(), 0
+        index, text, refuted = json.dumps(draw.index()).encode(), draw.requirements(), 0
         (self.outside / "index.json").write_bytes(index)
         (self.folder / "requirements.txt").write_bytes(text.encode())
         if self.call("init")[0] != 0:
@@ -264,12 +264,12 @@ class Drawn(Program):
         for _ in range(4):
             line, option = draw.line(), [KEEP] * draw.happens(50)
             status, output = self.call("why", *option, "--", line)
-            if status == 3 and found < left:
-                found += 1
+            if status == 3 and refuted < left:
+                refuted += 1
                 self.seen["with the option"] += len(option)
                 with self.subTest(text=text, line=line, output=output, option=option):
                     self.check(draw.random, index, [*cut_lines(text), line], output, self.locked() if option else {})
-        return found
+        return refuted
 
     def check(self, draw, index, texts, output, held):
         """The checker and the rules in Python answer alike, of what was printed and of what was altered, where these versions are kept."""
@@ -281,8 +281,8 @@ class Drawn(Program):
         ours = checker.Problem(packages, environment, list(map(checker.read_line, texts)), kept)
         self.assertTrue(is_refutation(theirs, read_refutation(output)))
         for kind, some in altered(draw, output.splitlines()):
-            wanted = is_refutation(theirs, read_refutation("".join(f"{it}\n" for it in some)))
-            against = checker.check(ours, [checker.read_conflict(f"{it}\n") for it in some])
+            wanted = is_refutation(theirs, read_refutation("".join(f"{line}\n" for line in some)))
+            against = checker.check(ours, [checker.read_conflict(f"{line}\n") for line in some])
             self.assertEqual(against == [], wanted, (kind, some, against))
             self.seen[kind, wanted] += 1
 

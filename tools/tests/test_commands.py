@@ -1,37 +1,46 @@
 """Tests of what the tools have in common: their names as scripts of a checkout and as installed commands, and what they tell of words
 and of an output that are wrong."""
 
-import contextlib
+import array
+import fcntl
+import importlib
 import os
+import pty
 import signal
 import subprocess
 import sys
+import termios
+import time
 import unittest
 from functools import partial
+from pathlib import Path
 from unittest import mock
 
 from support.places import TOOLS, new_folder
-from support.terminals import shown_on_terminal
-from support.tool_calls import called
+from support.terminals import read_all
+from support.tool_calls import called, copied
 from support.wanted_libraries import want_libraries
 from test_install import COMMANDS
 
-from reqlock_tools import moved, names
+from reqlock_tools import commands, moved, names
 
 
-# What an installed command runs.
-INSTALLED = "import sys\nsys.path.insert(0, {!r})\nfrom reqlock_tools.commands import call\nsys.exit(call({!r}))\n"
-# A tool in which Ctrl-C is pressed at once.
-PRESSED = """
-import importlib, sys
-from reqlock_tools import commands
+def pressed(module):
+    """The status of a tool in which Ctrl-C is pressed at once."""
+    with mock.patch.object(importlib.import_module(f"reqlock_tools.{module}"), "main", side_effect=KeyboardInterrupt):
+        return commands.call(module)
 
-def press(words):
-    raise KeyboardInterrupt
 
-importlib.import_module(f"reqlock_tools.{sys.argv[1]}").main = press
-sys.exit(commands.call(sys.argv[1]))
-"""
+def unread(pipe):
+    """How many bytes of a pipe wait to be read."""
+    count = array.array("i", [0])
+    fcntl.ioctl(pipe, termios.FIONREAD, count)
+    return count[0]
+
+
+def is_asleep(process):
+    """Whether a process waits for something."""
+    return Path(f"/proc/{process}/stat").read_text(encoding="ascii").rpartition(")")[2].split()[0] == "S"
 
 
 class Names(unittest.TestCase):
@@ -91,13 +100,14 @@ class Calls(unittest.TestCase):
 
     @staticmethod
     def interrupted(call):
-        """The status of a call at which Ctrl-C is pressed, and again where Python had it before it began to wait. One that comes while Python
-        ends would end it by the signal, so there is much time between two."""
-        for _ in range(6):
-            call.send_signal(signal.SIGINT)
-            with contextlib.suppress(subprocess.TimeoutExpired):
-                return call.wait(timeout=20)
-        return None
+        """The status of a call at which Ctrl-C is pressed once it has read all and waits for more. (One that comes between two readings is
+        heeded behind the next one alone.)"""
+        end = time.monotonic() + 60
+        while unread(call.stdin) or not is_asleep(call.pid):
+            assert time.monotonic() < end, "it doesn't wait for its input"
+            time.sleep(0.01)
+        call.send_signal(signal.SIGINT)
+        return call.wait(timeout=60)
 
     def test_ctrl_c(self):
         """It is pressed while the tool reads its input, which is longer than a pipe holds."""
@@ -115,25 +125,23 @@ class Calls(unittest.TestCase):
                 self.assertEqual((call.stdout.read(), call.stderr.read().decode()), (b"", f"{command}: stopped\n"))
         for module in names.COMMANDS:
             with self.subTest(module=module):
-                done = subprocess.run([sys.executable, "-B", "-c", PRESSED, module], cwd=TOOLS, capture_output=True, encoding="utf-8", check=False)
+                done = copied([f"{module}.py"], partial(pressed, module))
                 self.assertEqual((done.returncode, done.stdout, done.stderr), (130, "", f"{module}.py: stopped\n"))
 
     def told(self, module, terminal=True, **more):
         """What an installed command tells on standard error, which is a terminal or a pipe, when its help is asked for."""
-        place = self.folder / "bin" / names.COMMANDS[module]
-        place.parent.mkdir(exist_ok=True)
-        place.write_text(INSTALLED.format(str(TOOLS), module), encoding="utf-8")
-        variables = {name: it for name, it in os.environ.items() if name != "CI"} | {"XDG_CACHE_HOME": str(self.folder / "cache"), **more}
-        command = [sys.executable, "-B", place, "--help"]
-        if not terminal:
-            return subprocess.run(command, env=variables, capture_output=True, encoding="utf-8", check=True).stderr
-        status, shown = shown_on_terminal(lambda errors: subprocess.Popen(command, stdout=subprocess.DEVNULL, stderr=errors, env=variables))
-        self.assertEqual(status, 0)
+        variables = {name: value for name, value in os.environ.items() if name != "CI"} | {"XDG_CACHE_HOME": str(self.folder / "cache"), **more}
+        call = [str(self.folder / "bin" / names.COMMANDS[module]), "--help"], partial(commands.call, module), self.folder, variables
+        ours, theirs = pty.openpty()
+        done = copied(*call, terminal=theirs if terminal else None)
+        os.close(theirs)
+        shown = read_all(ours).decode() + done.stderr
+        self.assertEqual(done.returncode, 0, shown)
         return shown.replace("\r\n", "\n")
 
     @want_libraries("platformdirs")
     def test_a_person_is_told_once_which_word_of_rql_does_the_same(self):
-        listed = subprocess.run([sys.executable, "-B", TOOLS / "rql.py", "--help"], capture_output=True, encoding="utf-8", check=True).stdout
+        listed = called("rql", ["--help"]).stdout
         for module, words in moved.WORDS.items():
             command = names.COMMANDS[module]
             with self.subTest(command=command):

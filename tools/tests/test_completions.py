@@ -28,9 +28,10 @@ class Names(Completed):
         program.chmod(0o755)
 
     def variables(self):
-        found = super().variables()
+        variables = super().variables()
         return {
-            **found, "PATH": f"{self.folder}/bin:{found['PATH']}", "HOME": str(self.folder / "bin"), "SHOWN": str(self.folder / "shown"),
+            **variables, "PATH": f"{self.folder}/bin:{variables['PATH']}", "HOME": str(self.folder / "bin"),
+            "SHOWN": str(self.folder / "shown"),
         }
 
     def check_shells(self, check):

@@ -8,7 +8,7 @@ import tempfile
 import unittest
 from pathlib import Path
 
-from support.defined import clause_of, defined, definitions, extra_of, index_of, requirement_of, text, texts_of, value_of, version_of, written
+from support.defined import defined, definitions, extra_of, rules_clause, rules_index, rules_requirement, rules_version, text, texts_of, value_of, written
 from support.made.chance import Chance
 from support.made.environments import LINUX, OLDER, WINDOWS
 from support.made.sessions import FAULTY_LINES, FAULTY_NAMES, FAULTY_SETS, Draw
@@ -52,16 +52,16 @@ class Texts(Chance):
     def good_version(self):
         """A text that spells a version."""
         while True:
-            found = self.version()
-            if read_version(found) is not None:
-                return found.strip()
+            drawn = self.version()
+            if read_version(drawn) is not None:
+                return drawn.strip()
 
     def clause(self):
         return self.one(SIGNS[:-1] * 3 + SIGNS) + self.one(("", "", " ")) + self.good_version() + self.one(("", "", "", ".*"))
 
     def set(self):
-        found = ",".join(self.clause() + self.one(("", " ")) for _ in range(self.one((0, 1, 1, 2, 3))))
-        return self.one(FAULTY_SETS) if self.happens(5) else found + self.one(("", "", "", ","))
+        clauses = ",".join(self.clause() + self.one(("", " ")) for _ in range(self.one((0, 1, 1, 2, 3))))
+        return self.one(FAULTY_SETS) if self.happens(5) else clauses + self.one(("", "", "", ","))
 
     def relation(self):
         left, right = self.one(NAMES), self.one(RIGHTS)
@@ -73,8 +73,8 @@ class Texts(Chance):
     def marker(self, depth=2):
         if depth == 0 or self.happens(40):
             return self.relation()
-        found = f" {self.one(('and', 'or'))} ".join(self.marker(depth - 1) for _ in range(self.one((2, 2, 3))))
-        return f"({found})" if self.happens(60) else found
+        relations = f" {self.one(('and', 'or'))} ".join(self.marker(depth - 1) for _ in range(self.one((2, 2, 3))))
+        return f"({relations})" if self.happens(60) else relations
 
     def torn(self, whole):
         """A text with one character less, in some of the cases."""
@@ -98,19 +98,17 @@ def read_or_none(read, *given):
 
 
 class Versions(Drawn):
-    read = staticmethod(defined("pep440", "Tied.Reading", "version_of"))
-
     def parts(self, written_version):
-        return value_of(self.read(text(written_version)))
+        return value_of(defined("pep440", "Tied.Reading", "version_of")(text(written_version)))
 
     def test_are_read(self):
         for draw in self.draws():
             drawn = draw.torn(draw.version())
-            found, wanted = self.parts(drawn), read_version(drawn)
-            self.assertEqual(found and version_of(found), wanted, drawn)
+            parts, wanted = self.parts(drawn), read_version(drawn)
+            self.assertEqual(parts and rules_version(parts), wanted, drawn)
             if wanted is not None:
-                self.assertEqual(written(defined("pep440", "Canonical", "canonical")(found)), canonical(wanted))
-                self.assertEqual(defined("pep440", "Version", "is_pre")(found), rules.is_pre(wanted))
+                self.assertEqual(written(defined("pep440", "Canonical", "canonical")(parts)), canonical(wanted))
+                self.assertEqual(defined("pep440", "Version", "is_pre")(parts), rules.is_pre(wanted))
                 if version:
                     self.assertEqual(canonical(wanted), str(version.Version(drawn)))
 
@@ -119,23 +117,23 @@ class Versions(Drawn):
         for draw in self.draws():
             one, other = draw.good_version(), draw.good_version()
             keys = order_key(read_version(one)), order_key(read_version(other))
-            found = compare(self.parts(one), self.parts(other)).name
-            self.assertEqual(found, signs[(keys[0] > keys[1]) - (keys[0] < keys[1])], (one, other))
+            sign = compare(self.parts(one), self.parts(other)).name
+            self.assertEqual(sign, signs[(keys[0] > keys[1]) - (keys[0] < keys[1])], (one, other))
             if version:
                 theirs = version.Version(one), version.Version(other)
-                self.assertEqual(found, signs[(theirs[0] > theirs[1]) - (theirs[0] < theirs[1])], (one, other))
+                self.assertEqual(sign, signs[(theirs[0] > theirs[1]) - (theirs[0] < theirs[1])], (one, other))
 
     def test_match_sets(self):
         read, matches = defined("pep440", "Tied.Sets", "set_of"), defined("pep440", "Matching", "matches")
         for draw in self.draws():
             drawn = draw.torn(draw.set())
-            found, wanted = value_of(read(text(drawn))), read_or_none(rules.read_set, drawn)
-            self.assertEqual(found is None, wanted is None, drawn)
-            if found is None:
+            clauses, wanted = value_of(read(text(drawn))), read_or_none(rules.read_set, drawn)
+            self.assertEqual(clauses is None, wanted is None, drawn)
+            if clauses is None:
                 continue
-            self.assertEqual([*map(clause_of, found)], wanted, drawn)
+            self.assertEqual([*map(rules_clause, clauses)], wanted, drawn)
             for candidate in [draw.good_version() for _ in range(5)]:
-                is_match = matches(found, self.parts(candidate))
+                is_match = matches(clauses, self.parts(candidate))
                 self.assertEqual(is_match, rules.matches(wanted, read_version(candidate)), (drawn, candidate))
 
 
@@ -156,21 +154,21 @@ class Markers(Drawn):
         read, holds = defined("markers", "Marker", "marker_of"), defined("markers", "MarkerHolds", "holds")
         for draw in self.draws():
             drawn = draw.torn(draw.marker())
-            found, wanted = value_of(read(text(drawn))), read_or_none(rules.read_marker, drawn)
-            self.assertEqual(found is None, wanted is None, drawn)
-            for environment in ENVIRONMENTS if found is not None else ():
+            marker, wanted = value_of(read(text(drawn))), read_or_none(rules.read_marker, drawn)
+            self.assertEqual(marker is None, wanted is None, drawn)
+            for environment in ENVIRONMENTS if marker is not None else ():
                 for extra in EXTRAS:
-                    held = holds(found, texts_of(environment), extra_of(extra))
+                    held = holds(marker, texts_of(environment), extra_of(extra))
                     self.assertEqual(held, rules.holds(wanted, environment, extra), (drawn, extra))
 
 
 class Lines(Drawn):
-    def assert_asks(self, found, wanted, drawn):
+    def assert_asks(self, requirement, wanted, drawn):
         """A requirement asks for the same, its marker by where it holds."""
-        self.assertEqual(found is None, wanted is None, drawn)
-        if found is None:
+        self.assertEqual(requirement is None, wanted is None, drawn)
+        if requirement is None:
             return
-        read = requirement_of(found)
+        read = rules_requirement(requirement)
         self.assertEqual(read[:3], wanted[:3], drawn)
         self.assertEqual(read.marker is None, wanted.marker is None, drawn)
         for environment in ENVIRONMENTS if read.marker is not None else ():
@@ -187,7 +185,7 @@ class Lines(Drawn):
             self.assertEqual([*map(written, lines)], rules.cut_lines(drawn))
             for line in lines:
                 self.assertEqual(joined(slices(line)), line)
-                answer, wanted = read(line), read_or_none(lambda it: (rules.read_line(it),), written(line))
+                answer, wanted = read(line), read_or_none(lambda line: (rules.read_line(line),), written(line))
                 self.assertEqual(answer.name == "Ok", wanted is not None, drawn)
                 if wanted is not None:
                     self.assert_asks(value_of(answer.parts[0]), wanted[0], written(line))
@@ -211,26 +209,29 @@ class Indexes(Drawn):
 
     def without_markers(self, index):
         return {
-            name: [it._replace(dependencies=[wanted._replace(marker=wanted.marker is not None) for wanted in it.dependencies]) for it in releases]
+            name: [
+                release._replace(dependencies=[wanted._replace(marker=wanted.marker is not None) for wanted in release.dependencies])
+                for release in releases
+            ]
             for name, releases in index.releases.items()
         }
 
     def test_are_read(self):
         for draw in self.draws(60):
-            found, wanted = self.read(draw)
-            self.assertEqual(self.without_markers(index_of(found)), self.without_markers(wanted))
-            self.assertEqual(bytes(found.digest).hex(), wanted.digest)
+            index, wanted = self.read(draw)
+            self.assertEqual(self.without_markers(rules_index(index)), self.without_markers(wanted))
+            self.assertEqual(bytes(index.digest).hex(), wanted.digest)
 
     def test_admit(self):
         admits, active = defined("problems", "Admission", "admits_release"), defined("problems", "Problem", "requirements")
         for draw in self.draws(60):
-            found, wanted = self.read(draw)
+            index, wanted = self.read(draw)
             lines = rules.cut_lines(Draw(draw.random.random()).requirements())
             environment = draw.one(ENVIRONMENTS)
             asked = active(texts_of(environment), tuple(map(text, lines)))
-            given = Record(active=asked, environment=texts_of(environment), index=found, kept=(), only_kept=False)
+            given = Record(active=asked, environment=texts_of(environment), index=index, kept=(), only_kept=False)
             problem = locks.Problem(lines, environment, wanted, {})
-            self.assertEqual([requirement_of(it)[:3] for it in asked], [it[:3] for it in problem.asked])
+            self.assertEqual([rules_requirement(requirement)[:3] for requirement in asked], [requirement[:3] for requirement in problem.asked])
             for one, other in zip(asked, problem.asked):
                 for release, its in zip(defined("problems", "Problem", "releases_on")(given, one.name), wanted.releases.get(other.name, [])):
                     self.assertEqual(admits(given, one, release), problem.admits(other, its))
@@ -252,7 +253,7 @@ class Edits(Drawn):
         for draw in self.draws():
             drawn = Draw(draw.random.random())
             lines = rules.cut_lines(drawn.requirements())
-            command = drawn.command([rules.read_line(it).name for it in lines if rules.read_line(it)], FAULTY_NAMES)
+            command = drawn.command([rules.read_line(line).name for line in lines if rules.read_line(line)], FAULTY_NAMES)
             if command[0] not in ("add", "remove", "constrain"):
                 continue
             given, edit = tuple(map(text, lines)), self.edit_of(command)
@@ -278,7 +279,7 @@ class Pins(Drawn):
             self.assertEqual(value_of(first(given)) is None, wanted is not None, drawn)
             if wanted is not None:
                 rows = found_in(texts_of(environment), given)
-                self.assertEqual([(written(name), version_of(it)) for name, it in rows], wanted)
+                self.assertEqual([(written(name), rules_version(parts)) for name, parts in rows], wanted)
 
 
     def test_the_newer_of_two(self):
@@ -290,16 +291,16 @@ class Pins(Drawn):
             drawn = Draw(draw.random.random()).index()
             data = json.dumps(drawn).encode()
             index, given = locks.read_index(data), value_of(defined("snapshot", "Packages", "snapshot_of")(tuple(data)))
-            texts = [canonical(release.version) for found in index.releases.values() for release in found] + ["0", "1.0.0", "99", "99.0"]
+            texts = [canonical(release.version) for releases in index.releases.values() for release in releases] + ["0", "1.0.0", "99", "99.0"]
             sides = [{name: draw.one(texts) for name in sorted(index.releases) if draw.happens(70)} for _ in range(2)]
             kept = []
             for own, others in sides, sides[::-1]:
-                rows = [tuple((text(name), value_of(of_text(text(it)))) for name, it in side.items()) for side in (own, others)]
-                found = {written(name): version_of(it) for name, it in newer(given, *rows)}
-                one, other = ({name: read_version(it) for name, it in side.items()} for side in (own, others))
-                self.assertEqual(found, pins.newer_of(one, other.items(), index), (own, others))
-                lacked += any(order_key(found[name]) < max(map(order_key, (one[name], other[name]))) for name in one.keys() & other.keys())
-                kept.append({name: order_key(it) for name, it in found.items()})
+                rows = [tuple((text(name), value_of(of_text(text(pinned)))) for name, pinned in side.items()) for side in (own, others)]
+                newer_pins = {written(name): rules_version(parts) for name, parts in newer(given, *rows)}
+                one, other = ({name: read_version(pinned) for name, pinned in side.items()} for side in (own, others))
+                self.assertEqual(newer_pins, pins.newer_of(one, other.items(), index), (own, others))
+                lacked += any(order_key(newer_pins[name]) < max(map(order_key, (one[name], other[name]))) for name in one.keys() & other.keys())
+                kept.append({name: order_key(pinned) for name, pinned in newer_pins.items()})
             self.assertEqual(*kept)
         self.assertGreater(lacked, 0)
 

@@ -238,16 +238,16 @@ class Demo(unittest.TestCase):
             self.build(f"echo replied\nexit {status}")
             with self.subTest(status=status):
                 is_refusal = status in (1, 3)
-                found, output, errors, _ = self.demo()
-                self.assertEqual((found, output.count("replied")), (0, 12) if is_refusal else (1, 1))
+                exit_status, output, errors, _ = self.demo()
+                self.assertEqual((exit_status, output.count("replied")), (0, 12) if is_refusal else (1, 1))
                 self.assertEqual(errors, "" if is_refusal else f"demo: reqlock ended with status {status}\n")
 
     def test_a_try_that_is_no_answer_is_told(self):
         self.give_rt()
         for status in 1, 3, 4, 101:
             (self.folder / "status").write_text(str(status))
-            found, _, errors, _ = self.demo()
-            self.assertEqual((found, errors), (0, "") if status in (1, 3) else (1, f"demo: reqlock ended with status {status}\n"))
+            exit_status, _, errors, _ = self.demo()
+            self.assertEqual((exit_status, errors), (0, "") if status in (1, 3) else (1, f"demo: reqlock ended with status {status}\n"))
         for step in "reqlock try", "reqlock answer":
             (self.folder / "fail").write_text(step)
             status, _, errors, calls = self.demo()

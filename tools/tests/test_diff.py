@@ -15,7 +15,7 @@ from support.made.sessions import Draw
 from support.places import IS_LONG
 from support.program import Program
 from support.rules.journals import file_name
-from support.rules.lock_tables import read_lock
+from support.rules.lock_tables import read_lock_table
 from support.rules.requirements import cut_lines
 from support.rules.states import Change, State, Target, after, inverse, is_minimal, places_of
 from support.rules.versions import order_key, read_version
@@ -68,10 +68,10 @@ def fields_told(old, new):
     """Which fields differ of entries of equal versions."""
     if order_key(read_version(old["version"])) != order_key(read_version(new["version"])):
         return ""
-    files, others = ({it["name"]: it for it in [*entry["wheels"], *filter(None, [entry["sdist"]])]} for entry in (old, new))
-    places, other_places = ({(it["name"], it["url"], it["size"]) for it in found.values()} for found in (files, others))
+    files, others = ({file["name"]: file for file in [*entry["wheels"], *filter(None, [entry["sdist"]])]} for entry in (old, new))
+    places, other_places = ({(file["name"], file["url"], file["size"]) for file in named_files.values()} for named_files in (files, others))
     fields = {
-        "files": places != other_places, "hashes": any(it in others and others[it]["sha256"] != files[it]["sha256"] for it in files),
+        "files": places != other_places, "hashes": any(name in others and others[name]["sha256"] != files[name]["sha256"] for name in files),
         "requires-python": old["requires_python"] != new["requires_python"], "dependencies": old["dependencies"] != new["dependencies"],
     }
     told = ", ".join(field for field, is_other in fields.items() if is_other)
@@ -98,7 +98,7 @@ class Changes(Program):
         """The state that the files of the folder hold."""
         files, targets, digest = self.files(), {}, None
         for name, environment in sorted(self.environments.items()):
-            _, digest, entries = read_lock(files[file_name(name)])
+            _, digest, entries = read_lock_table(files[file_name(name)])
             targets[name] = Target(environment, entries)
         return State(cut_lines(files["requirements.txt"].decode()), digest, targets)
 

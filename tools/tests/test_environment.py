@@ -40,10 +40,10 @@ class Environment(unittest.TestCase):
     def test_prints_the_variables_of_this_interpreter(self):
         done = run()
         self.assertEqual((done.returncode, done.stderr), (0, ""))
-        found = json.loads(done.stdout)
-        self.assertEqual(list(found), sorted([*VARIABLES, *TAGS]))
-        self.assertEqual(found["sys_platform"], sys.platform)
-        self.assertEqual(found["python_version"], f"{sys.version_info.major}.{sys.version_info.minor}")
+        variables = json.loads(done.stdout)
+        self.assertEqual(list(variables), sorted([*VARIABLES, *TAGS]))
+        self.assertEqual(variables["sys_platform"], sys.platform)
+        self.assertEqual(variables["python_version"], f"{sys.version_info.major}.{sys.version_info.minor}")
         self.assertEqual(done.stdout.count("\n"), 1)
 
     def test_takes_no_other_words(self):
@@ -70,7 +70,7 @@ class Pythons(unittest.TestCase):
     def test_has_the_grammar_of_the_oldest_and_nothing_beside_it(self):
         text = (TOOLS / "reqlock_tools" / "environment.py").read_text(encoding="utf-8")
         tree = ast.parse(text, feature_version=OLDEST)
-        imported = {name for node in ast.walk(tree) if isinstance(node, ast.Import) for name in (it.name for it in node.names)}
+        imported = {name for node in ast.walk(tree) if isinstance(node, ast.Import) for name in (alias.name for alias in node.names)}
         imported |= {node.module for node in ast.walk(tree) if isinstance(node, ast.ImportFrom)}
         self.assertEqual(imported, {
             "argparse", "glob", "json", "os", "platform", "re", "shutil", "subprocess", "sys", "sysconfig", "typing",
@@ -81,15 +81,15 @@ class Pythons(unittest.TestCase):
         self.assertEqual(names & later, set())
 
     def test_is_run_by_each(self):
-        found = pythons()
-        for version, python in found.items():
+        versions = pythons()
+        for version, python in versions.items():
             with self.subTest(version=version):
                 own = printed(python=python)
                 self.assertEqual(own["python_version"], "{}.{}".format(*version))
                 self.assertEqual(printed("--python", python), own)
                 self.assertTrue(run("--help", python=python).stdout.startswith("usage: "))
                 self.check_described(version, python, own)
-        print(f"environment.py ran under Python {', '.join('{}.{}'.format(*version) for version in found)}")
+        print(f"environment.py ran under Python {', '.join('{}.{}'.format(*version) for version in versions)}")
 
     def check_described(self, version, python, own):
         """What is described of this machine is what its Python prints, but for the kernel's texts and the last number."""
@@ -97,10 +97,10 @@ class Pythons(unittest.TestCase):
             return
         words = "--python", own["python_full_version"], "--platform", "linux-x86_64"
         for which in python, sys.executable:
-            found = printed(*words, python=which)
+            described = printed(*words, python=which)
             kernel = {"platform_release": "", "platform_version": ""}
-            platforms = {"platforms": found["platforms"]}
-            self.assertEqual(found, own | kernel | platforms)
+            platforms = {"platforms": described["platforms"]}
+            self.assertEqual(described, own | kernel | platforms)
         self.assertEqual(printed("--python", "{}.{}".format(*version), *words[2:])["python_full_version"], "{}.{}.0".format(*version))
 
     @want_libraries("packaging.tags")
@@ -134,19 +134,19 @@ class Pythons(unittest.TestCase):
 
 class Described(unittest.TestCase):
     def check(self, name, variables, platforms, *words):
-        found = printed("--python", "3.9", "--platform", name, *words)
+        described = printed("--python", "3.9", "--platform", name, *words)
         wanted = dict(zip(("os_name", "platform_machine", "platform_system", "sys_platform"), variables.split()))
-        self.assertEqual({key: found[key] for key in wanted}, wanted)
-        self.assertEqual((found["interpreter"], found["abis"], found["python_full_version"]), ("cp39", ["cp39"], "3.9.0"))
-        self.assertEqual((found["platform_release"], found["platform_version"]), ("", ""))
-        self.assertEqual(found["platforms"], platforms)
+        self.assertEqual({key: described[key] for key in wanted}, wanted)
+        self.assertEqual((described["interpreter"], described["abis"], described["python_full_version"]), ("cp39", ["cp39"], "3.9.0"))
+        self.assertEqual((described["platform_release"], described["platform_version"]), ("", ""))
+        self.assertEqual(described["platforms"], platforms)
 
     def test_are_the_platforms_of_the_standards(self):
         x86, arm = ["manylinux_2_6", "manylinux_2_5", "manylinux1", "linux"], ["manylinux_2_18", "manylinux_2_17", "manylinux2014", "linux"]
-        self.check("linux-x86_64", "posix x86_64 Linux linux", [f"{it}_x86_64" for it in x86], "--glibc", "2.6")
-        self.check("linux-aarch64", "posix aarch64 Linux linux", [f"{it}_aarch64" for it in arm], "--glibc", "2.18")
+        self.check("linux-x86_64", "posix x86_64 Linux linux", [f"{platform}_x86_64" for platform in x86], "--glibc", "2.6")
+        self.check("linux-aarch64", "posix aarch64 Linux linux", [f"{platform}_aarch64" for platform in arm], "--glibc", "2.18")
         self.check("linux-aarch64", "posix aarch64 Linux linux", ["linux_aarch64"], "--glibc", "2.16")
-        musl = [f"{it}_aarch64" for it in ("musllinux_1_2", "musllinux_1_1", "musllinux_1_0", "linux")]
+        musl = [f"{platform}_aarch64" for platform in ("musllinux_1_2", "musllinux_1_1", "musllinux_1_0", "linux")]
         self.check("musllinux-aarch64", "posix aarch64 Linux linux", musl)
         self.check("musllinux-x86_64", "posix x86_64 Linux linux", ["musllinux_1_0_x86_64", "linux_x86_64"], "--musl", "1.0")
         self.check("windows-x86_64", "nt AMD64 Windows win32", ["win_amd64"])
@@ -167,8 +167,8 @@ class Described(unittest.TestCase):
             ("3.6", "3.6.0", "3.6.0", "cp36m"), ("3.7.4", "3.7.4", "3.7.4", "cp37m"), ("3.13.0rc2", "3.13.0c2", "3.13.0rc2", "cp313"),
             ("3.14.0a1", "3.14.0a1", "3.14.0a1", "cp314"),
         ):
-            found = printed("--python", text, "--platform", "windows-x86_64")
-            self.assertEqual((found["implementation_version"], found["python_full_version"], found["abis"]), (version, full, [abi]))
+            described = printed("--python", text, "--platform", "windows-x86_64")
+            self.assertEqual((described["implementation_version"], described["python_full_version"], described["abis"]), (version, full, [abi]))
         for text in "3", "2.7", "4.0", "3.x", "3.9.", "3.09":
             self.assertNotEqual(run("--python", text, "--platform", "windows-x86_64").returncode, 0, text)
 

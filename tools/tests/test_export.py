@@ -14,7 +14,7 @@ from support.made.environments import LINUX, WINDOWS
 from support.places import TOP, needs_program, new_folder
 from support.program import Program
 from support.rules.journals import file_name
-from support.rules.lock_tables import read_lock
+from support.rules.lock_tables import read_lock_table
 from support.shown import indented_blocks, typed_blocks
 from support.tool_calls import called
 from test_wheels import FIRST, HEAD, Shell, make_wheels, section
@@ -52,18 +52,18 @@ def drawn(text):
 
 def texts_of(picture, kind):
     """Each node, edge or cluster of a picture: its title, and the text that it shows."""
-    found = {}
+    texts = {}
     for group in picture.iter(f"{SVG}g"):
         if group.get("class") == kind:
             shown = "".join(text.text or "" for text in group.iter(f"{SVG}text"))
-            found[group.find(f"{SVG}title").text] = shown.replace("\N{NO-BREAK SPACE}", " ")
-    return found
+            texts[group.find(f"{SVG}title").text] = shown.replace("\N{NO-BREAK SPACE}", " ")
+    return texts
 
 
 def graph_of(lock, target, lines):
     """The nodes and edges of a lock, where these lines are active: each a number, a text and a name."""
     nodes = {f"{target}:{name}": f"{name} {entry['version']}" for name, entry in lock.items()}
-    edges = {f"{target}:{name}->{target}:{it}" for name, entry in lock.items() for it in entry["dependencies"]}
+    edges = {f"{target}:{name}->{target}:{dependency}" for name, entry in lock.items() for dependency in entry["dependencies"]}
     for number, text, name in lines:
         nodes[f"{target}:line {number}"] = f"line {number}: {text}"
         edges.add(f"{target}:line {number}->{target}:{name}")
@@ -73,7 +73,7 @@ def graph_of(lock, target, lines):
 @needs_program
 class Export(Program):
     def lock_of(self, target):
-        return read_lock((self.folder / file_name(target)).read_bytes())[2]
+        return read_lock_table((self.folder / file_name(target)).read_bytes())[2]
 
     def begin_odd(self):
         self.begin(LINES.encode(), *RELEASES)
@@ -108,7 +108,8 @@ class Export(Program):
             nodes |= more[0]
             edges |= more[1]
         shown = texts_of(picture, "node")
-        self.assertEqual({name: " ".join(it.split()) for name, it in shown.items()}, {name: " ".join(it.split()) for name, it in nodes.items()})
+        shown, nodes = ({name: " ".join(words.split()) for name, words in texts.items()} for texts in (shown, nodes))
+        self.assertEqual(shown, nodes)
         self.assertEqual(set(texts_of(picture, "edge")), edges)
         self.assertEqual(texts_of(picture, "cluster"), {f"cluster {name}": name for name in lines if name and lines[name]})
 
@@ -236,7 +237,7 @@ class Pylock(Program):
         return marker
 
     def entries(self):
-        return read_lock((self.folder / "pylock.toml").read_bytes())[2]
+        return read_lock_table((self.folder / "pylock.toml").read_bytes())[2]
 
     def test_keeps_what_is_asked(self):
         self.begin_asking()
@@ -310,7 +311,7 @@ class Pylock(Program):
     def test_a_new_lock_is_the_same_wherever_the_marker_holds(self):
         others = [self.environment_of(python) for python in PYTHONS]
         others += [self.environment_of("3.11.7", sys_platform="win32"), self.environment_of("3.10.4", platform_release="x", os_name="y")]
-        for python in [it for it in PYTHONS if it not in UNLOCKED]:
+        for python in [version for version in PYTHONS if version not in UNLOCKED]:
             self.begin_asking(python)
             data, locked = self.travelling(), self.entries()
             self.assertEqual(entries_installed(data, self.environments[""]), locked)
@@ -320,13 +321,13 @@ class Pylock(Program):
 
     def check_elsewhere(self, data, locked, other):
         """The lock isn't for another environment, or installs there what is locked here and would be there."""
-        found = entries_installed(data, other)
-        if found is None:
+        installed = entries_installed(data, other)
+        if installed is None:
             return
         self.lock_for({"": other})
         self.begin(b"a\n", *ASKING)
         self.assertEqual(self.call("init"), (0, "ok 0\n"))
-        self.assertEqual((found, self.entries()), (locked, locked))
+        self.assertEqual((installed, self.entries()), (locked, locked))
 
     def test_of_several_targets_the_one_that_is_named(self):
         self.lock_for(TWO)
@@ -360,7 +361,7 @@ class Page(unittest.TestCase):
     @needs_program
     def test_what_is_printed(self):
         page = (TOP / "docs" / "EXPORT.md").read_text(encoding="utf-8")
-        for command, shown in [it for block in typed_blocks(page) for it in block]:
+        for command, shown in [call for block in typed_blocks(page) for call in block]:
             done = answered(new_folder(self.addCleanup), *shlex.split(command)[1:])
             printed = re.sub("[0-9a-f]{64}", "..", re.sub("(?<=^# for ).*", "..", (done.stdout + done.stderr).decode(), flags=re.M))
             self.assertEqual(printed.splitlines(), shown, command)

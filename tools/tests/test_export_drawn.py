@@ -13,7 +13,7 @@ from support.made.releases import file_of
 from support.made.sessions import SETS, Draw
 from support.places import IS_LONG, needs_program
 from support.rules.edits import Refused, begun
-from support.rules.lock_tables import read_lock
+from support.rules.lock_tables import read_lock_table
 from support.rules.requirements import cut_lines
 
 # What a variable other than those of Python has is a version in one environment and none in another.
@@ -50,15 +50,15 @@ class DrawnIndex(Draw):
     """Indexes that ask much of an environment."""
 
     def requirement(self, markers, names=()):
-        found = self.name(names) + self.one(("", "", "", "[e-1]")) + self.one(SETS)
-        return f"{found} ; {self.one(markers)}" if self.happens(40) else found
+        clauses = self.name(names) + self.one(("", "", "", "[e-1]")) + self.one(SETS)
+        return f"{clauses} ; {self.one(markers)}" if self.happens(40) else clauses
 
     def release(self, name, version):
         needs = [self.requirement(HOLDING * 2 + EXTRAS) for _ in range(self.one((0, 0, 1, 1, 2)))]
-        found = {"version": version, "files": [file_of(name, version)], "requires_dist": needs}
+        release = {"version": version, "files": [file_of(name, version)], "requires_dist": needs}
         if self.happens(35):
-            found["requires_python"] = self.one(ASKED)
-        return found
+            release["requires_python"] = self.one(ASKED)
+        return release
 
     def requirements(self):
         return "".join(f"{self.requirement(HOLDING, [name])}\n" for name in self.random.sample(self.names, self.one((1, 2, 2, 3))))
@@ -68,26 +68,26 @@ class DrawnIndex(Draw):
 
     def other_than(self, environment, count):
         """An environment in which so many things may be other ones."""
-        found = dict(environment)
+        changed = dict(environment)
         for _ in range(count):
             part = self.one(("python", "python", "system", "implementation", "platform_machine", "platform_release", "platform_version"))
             if part == "python":
                 python = self.one(PYTHONS)
-                found |= {"python_full_version": python, "python_version": ".".join(python.split(".")[:2])}
-                if found["implementation_name"] == "cpython":
-                    found["implementation_version"] = python
+                changed |= {"python_full_version": python, "python_version": ".".join(python.split(".")[:2])}
+                if changed["implementation_name"] == "cpython":
+                    changed["implementation_version"] = python
             elif part == "system":
-                found["sys_platform"], found["os_name"], found["platform_system"] = self.one(SYSTEMS)
+                changed["sys_platform"], changed["os_name"], changed["platform_system"] = self.one(SYSTEMS)
             elif part == "implementation":
                 name, platform, version = self.one(IMPLEMENTATIONS)
-                found |= {
+                changed |= {
                     "implementation_name": name, "platform_python_implementation": platform,
-                    "implementation_version": version or found["python_full_version"],
+                    "implementation_version": version or changed["python_full_version"],
                 }
             else:
                 texts = {"platform_machine": MACHINES, "platform_release": RELEASES, "platform_version": KERNELS}
-                found[part] = self.one(texts[part])
-        return found
+                changed[part] = self.one(texts[part])
+        return changed
 
 
 # What indexes mostly ask: of the system, the machine, the implementation, an old Python or a new one.
@@ -112,15 +112,15 @@ class UsersIndex(DrawnIndex):
     """Indexes as users have them: few markers, and releases that ask for a Python by its lower bound."""
 
     def requirement(self, markers, names=()):
-        found = self.name(names) + self.one(("", "", "", "[e-1]")) + self.one(SETS)
-        return f"{found} ; {self.one(markers)}" if self.happens(30) else found
+        clauses = self.name(names) + self.one(("", "", "", "[e-1]")) + self.one(SETS)
+        return f"{clauses} ; {self.one(markers)}" if self.happens(30) else clauses
 
     def release(self, name, version):
         needs = [self.requirement(USUAL + USUAL_EXTRAS) for _ in range(self.one((0, 0, 1, 1, 2)))]
-        found = {"version": version, "files": [file_of(name, version)], "requires_dist": needs}
+        release = {"version": version, "files": [file_of(name, version)], "requires_dist": needs}
         if self.happens(70):
-            found["requires_python"] = self.one(USUAL_PYTHONS)
-        return found
+            release["requires_python"] = self.one(USUAL_PYTHONS)
+        return release
 
     def requirements(self):
         return "".join(f"{self.requirement(USUAL, [name])}\n" for name in self.random.sample(self.names, self.one((1, 2, 2, 3))))
@@ -163,10 +163,10 @@ class Drawn(DrawnFiles):
             self.assertFalse(compares_no_version(marker, environment))
         for _ in range(OTHERS):
             other = draw.other_than(environment, draw.one((1, 1, 2, 3)))
-            found, wanted = entries_installed(lock, other), self.ruled(lines, other)
-            is_met = found is not None
+            installed, wanted = entries_installed(lock, other), self.ruled(lines, other)
+            is_met = installed is not None
             if is_met:
-                self.assertEqual((wanted, found), (locked, locked[1]), (lock, other))
+                self.assertEqual((wanted, installed), (locked, locked[1]), (lock, other))
                 if draw.happens(20):
                     self.assertEqual(self.lock_in(lines, other), locked, (lock, other))
             self.seen["holds elsewhere"] += is_met and other != environment
@@ -180,7 +180,7 @@ class Drawn(DrawnFiles):
         self.put({"requirements.txt": lines.encode()})
         status, output, _ = self.told("init")
         self.assertIn((status, output), [(0, "ok 0\n"), (3, "refused no-solution\n")])
-        return read_lock((self.folder / "pylock.toml").read_bytes())[1:] if status == 0 else None
+        return read_lock_table((self.folder / "pylock.toml").read_bytes())[1:] if status == 0 else None
 
     def ruled(self, lines, environment):
         """The same by the rules in Python."""

@@ -6,7 +6,7 @@ from support.made.chance import Chance
 from support.made.releases import problem_in
 from support.places import IS_LONG
 from support.program import Program
-from support.rules.lock_tables import read_lock
+from support.rules.lock_tables import read_lock_table
 from support.rules.locks import best_solution, entries_of
 
 SEEDS = 1000 if IS_LONG else 40
@@ -58,7 +58,7 @@ class ManyExtras(Program):
         self.assertIsNotNone(best)
         self.begin(lines.encode(), *releases)
         self.assertEqual(self.call("init"), (0, "ok 0\n"))
-        entries = read_lock((self.folder / "pylock.toml").read_bytes())[2]
+        entries = read_lock_table((self.folder / "pylock.toml").read_bytes())[2]
         self.assertEqual(entries, entries_of(problem, best))
         return entries
 
@@ -96,7 +96,7 @@ class ManyExtras(Program):
                     self.assertNotEqual(self.call("init")[0], 0)
                 else:
                     self.assertEqual(self.call("init"), (0, "ok 0\n"))
-                    entries = read_lock((self.folder / "pylock.toml").read_bytes())[2]
+                    entries = read_lock_table((self.folder / "pylock.toml").read_bytes())[2]
                     self.assertEqual(entries, entries_of(problem, best))
                     solved += 1
             self.setUp()

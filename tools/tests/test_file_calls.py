@@ -9,12 +9,14 @@ import sys
 import unittest
 
 from support.made.environments import LINUX, MACOS, OLDER, WINDOWS
+from support.once import made_once
 from support.places import SUPPORT
 from support.program import NOBODY, Fifty
 
 import growths  # (it stands in tools/)
 
 SOURCE = SUPPORT / "file_calls.c"
+LIBRARY = "file_calls.so"
 EDITS = (
     ["add", "p02"], ["remove", "p00"], ["constrain", "p00", "<2"], ["upgrade"], ["upgrade", "p00"], ["relock"], ["undo"], ["redo"],
     ["replace", "-"], ["retarget"], ["relock", "--if-needed"], ["forget", "--before", "1"], ["forget", "--keep", "1"],
@@ -39,13 +41,17 @@ CHANGING = set(
 )
 
 
+def compile_into(folder):
+    """Makes the library that tells the calls."""
+    subprocess.run([*growths.compiler(), "-shared", "-fPIC", "-O2", "-o", folder / LIBRARY, SOURCE], check=True)
+
+
 @unittest.skipUnless(sys.platform == "linux" and growths.compiler(), "there is no C compiler, or no Linux")
 class FileCalls(Fifty):
     def setUp(self):
         super().setUp()
-        self.library = self.outside / "file_calls.so"
+        self.library = made_once("file-calls", compile_into) / LIBRARY
         self.report = self.outside / "report"
-        subprocess.run([*growths.compiler(), "-shared", "-fPIC", "-O2", "-o", self.library, SOURCE], check=True)
 
     def watched(self, *words, name=".", **variables):
         """The status of a call with its file calls told, what it writes, and those calls. It is made in the folder, with this name

@@ -89,8 +89,8 @@ class OverProgram(Program):
             told = f"{table(*rows)}\n2 folders: 1 ok, 1 refused\n"
             self.assertEqual(self.fleet("mail", "site", "--", "forget", "--keep", "1", *more), (1, told, ""))
         self.assertEqual(self.asked("mail", "log"), "  0 init\n* 1 remove flask\n")
-        found = json.loads(self.fleet("--json", "site", "--", "forget", "--keep=1")[1])["folders"][0]
-        self.assertEqual((found["kind"], found["reply"], found["status"], found["told"]), ("refused", "refused", 2, late))
+        report = json.loads(self.fleet("--json", "site", "--", "forget", "--keep=1")[1])["folders"][0]
+        self.assertEqual((report["kind"], report["reply"], report["status"], report["told"]), ("refused", "refused", 2, late))
         self.assertEqual(self.fleet("mail", "site", "--", "forget", "--before", "0")[0], 0)
         self.assertIn("--before or --keep is needed", self.fleet("mail", "--", "forget")[2])
 
@@ -106,8 +106,8 @@ class OverProgram(Program):
             ([*new, "docs", "--", "retarget", "--pins=absent.txt"], 4, "absent.txt: unreadable\n"),
         ):
             with self.subTest(words=words):
-                found, output, errors = self.fleet(*words)
-                self.assertEqual((found, output), (status, ""))
+                exit_status, output, errors = self.fleet(*words)
+                self.assertEqual((exit_status, output), (status, ""))
                 self.assertIn(told, errors)
                 self.assertNotIn("/tmp", errors)
         (self.outside / "news" / "requirements.txt").write_bytes(b"urllib3\n")

@@ -57,11 +57,11 @@ class Cluster:
     @staticmethod
     def wait_for(find):
         end = time.monotonic() + 120
-        while not (found := find()):
+        while not (value := find()):
             if time.monotonic() > end:
                 raise AssertionError("dask doesn't come up")
             time.sleep(0.1)
-        return found
+        return value
 
     def close(self):
         for process in reversed(self.processes):
@@ -97,7 +97,7 @@ class Workers(Fleet):
     def kill_worker_of(self, name):
         """Kills the worker that makes the call in a folder."""
         process = (self.folder / name / "worker").read_text(encoding="utf-8").strip()
-        [worker] = [it for it in self.workers if it.pid == int(process)]
+        [worker] = [worker for worker in self.workers if worker.pid == int(process)]
         worker.kill()
         worker.wait()
 

@@ -86,7 +86,7 @@ class Forget(Program):
             (["log"], 0, "  0 init\n* 1 add c\n  2 remove b\n  3 constrain a\n"), (["diff"], 0, "+ 4: c\n+ c 1\n"),
             (["diff", "0", "2"], 0, "- 3: b  # why\n+ 3: c\n- b 1\n+ c 1\n- d 2\n"), (["diff", "4"], 2, "reqlock: the history has no place 4\n"),
         )
-        self.assertIn(b"# web\r\na<2\r\nb  # why\r\n", [it["requirements.txt"] for it in self.states])
+        self.assertIn(b"# web\r\na<2\r\nb  # why\r\n", [files["requirements.txt"] for files in self.states])
 
     def test_where_nothing_is_forgotten_nothing_is_saved(self):
         times = {path.name: path.stat().st_mtime_ns for path in self.folder.iterdir()}
@@ -102,8 +102,8 @@ class Forget(Program):
             for option, told in ("--before", at), ("--keep", back):
                 for more in [], ["--dry-run"], ["-v"], ["-q"]:
                     with self.subTest(option=option, number=number, more=more):
-                        found = self.told("forget", option, str(number), *more)
-                        self.assertEqual(found, (2, "", f"reqlock: the history stands at place 3, and {told}\n"))
+                        answer = self.told("forget", option, str(number), *more)
+                        self.assertEqual(answer, (2, "", f"reqlock: the history stands at place 3, and {told}\n"))
         self.assertEqual(self.files(), self.before)
 
     def test_a_dry_run_saves_nothing(self):

@@ -67,25 +67,25 @@ class Growths(unittest.TestCase):
         cls.program = compile_program(cls.folder)
 
     def test_refuses_each_growth_once(self):
-        found = list(growths.runs([self.program], self.library))
-        self.assertEqual([run.refused for run in found], [
+        runs = list(growths.runs([self.program], self.library))
+        self.assertEqual([run.refused for run in runs], [
             "malloc 100", "calloc 200", "realloc 9000", "memalign 128", "memalign 128", None,
         ])
         outputs = [b"malloc\nbegin\n", *(b"begin\n" + word for word in (b"calloc\n", b"realloc\n", b"aligned\n", b"posix\n"))]
-        self.assertEqual([run.output for run in found], [*outputs, b"begin\n"])
-        self.assertEqual([run.status for run in found], [1, 1, 1, 1, 1, 0])
-        self.assertEqual([run.growths for run in found], [5] * 6)
+        self.assertEqual([run.output for run in runs], [*outputs, b"begin\n"])
+        self.assertEqual([run.status for run in runs], [1, 1, 1, 1, 1, 0])
+        self.assertEqual([run.growths for run in runs], [5] * 6)
 
     def test_counts_behind_the_mark(self):
-        found = list(growths.runs([self.program], self.library, mark="begin\n"))
-        self.assertEqual([run.refused for run in found][:2], ["calloc 200", "realloc 9000"])
-        self.assertEqual(len(found), 5)
+        runs = list(growths.runs([self.program], self.library, mark="begin\n"))
+        self.assertEqual([run.refused for run in runs][:2], ["calloc 200", "realloc 9000"])
+        self.assertEqual(len(runs), 5)
         [only] = growths.runs([self.program], self.library, mark="never")
         self.assertEqual((only.refused, only.output), (None, b"begin\n"))
 
     def test_stops_counting_at_the_end(self):
-        found = list(growths.runs([self.program], self.library, mark="begin\n", end="calloc\n"))
-        self.assertEqual([run.growths for run in found], [1, 4, 4, 4, 4])
+        runs = list(growths.runs([self.program], self.library, mark="begin\n", end="calloc\n"))
+        self.assertEqual([run.growths for run in runs], [1, 4, 4, 4, 4])
 
     def test_runs_in_a_copy_of_the_folder(self):
         folder = self.folder / "files"
@@ -118,10 +118,10 @@ class Growths(unittest.TestCase):
         def run(number, refused, status):
             return growths.Run(number, refused, None, status, b"a\nb\n", b"", {})
 
-        found = [run(1, "malloc 1", 5), run(2, "malloc 2", 5), run(3, "malloc 1", 0), run(4, None, 0)]
+        runs = [run(1, "malloc 1", 5), run(2, "malloc 2", 5), run(3, "malloc 1", 0), run(4, None, 0)]
         lines = []
         with unittest.mock.patch("builtins.print", lambda line, **_: lines.append(line)):
-            self.assertTrue(growths.show(found))
+            self.assertTrue(growths.show(runs))
         self.assertEqual(lines, [
             "1-2: status 5  b", "3: status 0  b", "none refused: status 0  b", "3 growths refused, one in each run",
         ])

@@ -7,7 +7,6 @@ import gzip
 import io
 import json
 import os
-import resource
 import subprocess
 import sys
 import tarfile
@@ -21,6 +20,8 @@ from unittest import mock
 from support.made.archives import headers, tarred, zipped
 from support.made.environments import LINUX
 from support.places import IS_LONG, TOOLS, new_folder
+from support.tool_calls import Limits as CallLimits
+from support.tool_calls import called
 from support.wanted_libraries import want_libraries
 
 from reqlock_tools import adopt
@@ -49,16 +50,9 @@ class Hostile(unittest.TestCase):
     def setUp(self):
         self.folder = new_folder(self.addCleanup)
 
-    def run_tool(self, name, *words, given=subprocess.DEVNULL):
+    def run_tool(self, name, *words, text=""):
         """The status and standard error of a call that may have this memory and time. Its standard input may be given."""
-
-        def limit():
-            resource.setrlimit(resource.RLIMIT_AS, (MEMORY, MEMORY))
-
-        command = [sys.executable, "-B", TOOLS / f"{name}.py", *words]
-        done = subprocess.run(
-            command, cwd=self.folder, stdin=given, capture_output=True, encoding="utf-8", check=False, preexec_fn=limit, timeout=SECONDS * 3,
-        )
+        done = called(name, words, self.folder, text=text, limits=CallLimits(SECONDS * 3, MEMORY))
         self.assertNotIn("Traceback", done.stderr)
         return done.returncode, done.stderr
 
@@ -86,8 +80,8 @@ class Archives(Hostile):
         self.check(in_zip, data, "over 6 bytes of a METADATA or PKG-INFO; ", Limits(metadata=6))
         self.check(at_end_of_zip, data, "over 6 bytes of a METADATA or PKG-INFO; ", Limits(metadata=6))
         self.check(in_zip, data, "over 100 bytes of an archive's own lists; ", Limits(directory=100))
-        found = metadata_of("a", io.BytesIO(data), True, in_zip, Limits(member=200, unpacked=307, members=3, metadata=7))
-        self.assertEqual(found, ("a-1.dist-info", b"Name: a"))
+        metadata = metadata_of("a", io.BytesIO(data), True, in_zip, Limits(member=200, unpacked=307, members=3, metadata=7))
+        self.assertEqual(metadata, ("a-1.dist-info", b"Name: a"))
 
     def test_a_zip_whose_members_are_one(self):
         """A small one that tells a hundred gigabytes, as the same bytes are those of each member."""
@@ -304,10 +298,8 @@ class Refutations(Hostile):
         (self.folder / "index.json").write_text(json.dumps(index), encoding="utf-8")
         (self.folder / "environment.json").write_text(json.dumps(LINUX), encoding="utf-8")
         (self.folder / "lines").write_text("".join(f"a!={number}\n" for number in reversed(range(count))), encoding="utf-8")
-        with open(self.folder / "refutation", "w+", encoding="utf-8") as file:
-            file.write("".join(f"{it}\n" for it in conflicts))
-            file.seek(0)
-            return self.run_tool("check_refutation", "index.json", "environment.json", "lines", *words, given=file)
+        told = "".join(f"{conflict}\n" for conflict in conflicts)
+        return self.run_tool("check_refutation", "index.json", "environment.json", "lines", *words, text=told)
 
     def test_with_many_lines_and_releases(self):
         self.assertEqual(self.check(3000, ["a==0"]), (1, ""))
@@ -343,9 +335,9 @@ class Links(Hostile):
 
     def test_a_file_that_cannot_be_written_is_told_by_its_own_name(self):
         place = self.folder / "none" / "index.json"
-        with self.assertRaises(FileNotFoundError) as found:
+        with self.assertRaises(FileNotFoundError) as raised:
             write_whole(str(place), b"x", usual_mode())
-        self.assertEqual(fault_text(found.exception), f"{place}: {os.strerror(errno.ENOENT)}")
+        self.assertEqual(fault_text(raised.exception), f"{place}: {os.strerror(errno.ENOENT)}")
 
     @unittest.skipUnless(os.geteuid() == 0, "optional: only root can give a link to another user")
     def test_a_snapshot_is_written_through_no_link_of_another_user(self):

@@ -290,7 +290,7 @@ class Odd(Hostile):
     def test_charsets(self):
         link = self.index.html_line(self.index.projects["a"][0]).encode()
         for place, charset in enumerate(("idna", "punycode", "undefined", "base64", "rot13", "utf-16", "\xb2", "x" * 9000)):
-            self.index.instead[PATH] = [lambda to, it=charset: to.give(200, link, f"text/html; charset={it}")]
+            self.index.instead[PATH] = [lambda to, charset=charset: to.give(200, link, f"text/html; charset={charset}")]
             self.assertEqual(self.taken("--cache", self.folder / "cache" / str(place)), [])
 
     def test_entries_of_the_cache(self):

@@ -108,7 +108,7 @@ class Secrets(Hostile):
         self.check_refused(self.index, "a", fault=fault)
 
     def test_a_proxy_over_tls_is_told_nothing_in_plain(self):
-        found = []
+        received = []
         with socket.create_server(("127.0.0.1", 0)) as server:
             server.settimeout(SECONDS)
 
@@ -116,7 +116,7 @@ class Secrets(Hostile):
                 connection, _ = server.accept()
                 with connection:
                     connection.settimeout(SECONDS)
-                    found.append(connection.recv(2**16))
+                    received.append(connection.recv(2**16))
 
             thread = threading.Thread(target=hear)
             thread.start()
@@ -125,8 +125,8 @@ class Secrets(Hostile):
             with mock.patch.dict(os.environ, variables):
                 status, _ = self.call("https://index.example/simple/", "a", "--retries", "0")
             thread.join(SECONDS)
-        self.assertEqual((status, found[0][:1]), (1, b"\x16"))
-        self.assertNotIn(b"Proxy-Authorization", found[0])
+        self.assertEqual((status, received[0][:1]), (1, b"\x16"))
+        self.assertNotIn(b"Proxy-Authorization", received[0])
 
     def test_entries_of_a_cache_that_are_no_files_are_not_waited_for(self):
         self.taken()

@@ -61,7 +61,7 @@ def places(value):
 
 def bend(chance, index):
     """Changes something somewhere: a value, a key that is taken away, or one that nobody knows."""
-    value, keys = chance.one([found for found in places(index) if found[1]])
+    value, keys = chance.one([place for place in places(index) if place[1]])
     key = chance.one(keys)
     if chance.happens(60):
         value[key] = chance.one(MISSHAPEN)
@@ -73,7 +73,7 @@ def bend(chance, index):
 
 def twice(chance, text):
     """The text with a key that stands twice in one of its objects, the wrong value first."""
-    keys = [found.start() for found in re.finditer('"(name|version|url|size|sha256|files|releases)": ', text)]
+    keys = [match.start() for match in re.finditer('"(name|version|url|size|sha256|files|releases)": ', text)]
     if not keys:
         return text
     start = chance.one(keys)

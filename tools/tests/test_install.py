@@ -124,7 +124,7 @@ class Places(unittest.TestCase):
 
     def test_the_list_says_what_was_put_where(self):
         self.give_installed()
-        found = {RECORD}
+        installed = {RECORD}
         for line in (self.prefix / RECORD).read_text(encoding="utf-8").splitlines():
             kind, sign, name = line.split(" ")
             path = self.prefix / name
@@ -135,8 +135,8 @@ class Places(unittest.TestCase):
                 self.assertEqual(sign, os.readlink(path))
             else:
                 self.assertEqual((kind, sign, path.is_dir()), ("folder", "-", True))
-            found.add(Path(name))
-        self.assertEqual({path.relative_to(self.prefix) for path in self.prefix.rglob("*")} - found, {Path("share")})
+            installed.add(Path(name))
+        self.assertEqual({path.relative_to(self.prefix) for path in self.prefix.rglob("*")} - installed, {Path("share")})
         self.install("--remove")
         self.assertEqual(list(self.prefix.rglob("*")), [self.prefix / "share"])
         fault = f"install: {self.prefix}/lib/reqlock/installed isn't there: ./install put nothing below {self.prefix}\n"

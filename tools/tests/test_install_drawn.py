@@ -58,14 +58,14 @@ class Target(NamedTuple):
     entries: dict[str, dict]
 
     def is_met(self, environment):
-        return all(it.answer(environment) == it.answer(self.environment) for it in self.questions)
+        return all(question.answer(environment) == question.answer(self.environment) for question in self.questions)
 
     def has(self, pair):
         """Whether it has an entry, which is a pair of a name and a table."""
         return self.entries.get(pair[0]) == pair[1]
 
     def marker(self):
-        return " and ".join(it.told(self.environment) for it in self.questions)
+        return " and ".join(question.told(self.environment) for question in self.questions)
 
 
 def numbers_of(version):
@@ -87,16 +87,16 @@ class DrawnTargets(Chance):
 
     def entry(self, name, others):
         """An entry of one of two versions, with wheels for each platform, for some, or for any, or with an sdist."""
-        found = entry(name, self.one(("1", "2")), *sorted(self.random.sample(others, min(len(others), self.one((0, 0, 1))))))
-        [wheel] = found["wheels"]
+        drawn = entry(name, self.one(("1", "2")), *sorted(self.random.sample(others, min(len(others), self.one((0, 0, 1))))))
+        [wheel] = drawn["wheels"]
         platforms = self.one(([], ["linux"], list(PLATFORMS)))
-        found["wheels"] = [wheel] if not platforms or self.happens(60) else []
+        drawn["wheels"] = [wheel] if not platforms or self.happens(60) else []
         for platform in sorted(platforms, key=PLATFORMS.get):
             file = wheel["name"].replace("any.whl", f"{PLATFORMS[platform]}.whl")
-            found["wheels"].append(wheel | {"name": file, "url": f"https://files.example/{file}"})
+            drawn["wheels"].append(wheel | {"name": file, "url": f"https://files.example/{file}"})
         if self.happens(40):
-            found["sdist"] = wheel | {"name": f"{name}-{found['version']}.zip", "url": f"https://files.example/{name}.zip"}
-        return found
+            drawn["sdist"] = wheel | {"name": f"{name}-{drawn['version']}.zip", "url": f"https://files.example/{name}.zip"}
+        return drawn
 
     def entries(self):
         names = self.random.sample(NAMES, self.one((1, 2, 3)))
@@ -108,12 +108,12 @@ class DrawnTargets(Chance):
         return entries | {name: self.entry(name, [other for other in entries if other != name])} if self.happens(50) else entries
 
     def targets(self):
-        found = []
+        targets = []
         for _ in range(self.one((1, 2, 2, 3))):
-            entries = self.changed(found[-1].entries) if found and self.happens(70) else self.entries()
+            entries = self.changed(targets[-1].entries) if targets and self.happens(70) else self.entries()
             questions = [self.question() for _ in range(0 if self.happens(5) else self.one((1, 1, 2, 3)))]
-            found.append(Target(self.environment(), questions, entries))
-        return found
+            targets.append(Target(self.environment(), questions, entries))
+        return targets
 
 
 def pairs_of(targets):
@@ -173,12 +173,12 @@ def file_taken(entry, environment):
 def wanted_in(targets, environment):
     """What is installed in an environment: the step of an error, or the entries by name with the file that is taken of each."""
     pairs = pairs_of([target for target in targets if target.is_met(environment)])
-    found = {name: (entry, file_taken(entry, environment)) for name, entry in pairs}
+    chosen = {name: (entry, file_taken(entry, environment)) for name, entry in pairs}
     if not pairs:
         return "environments"
-    if len(found) < len(pairs):
+    if len(chosen) < len(pairs):
         return "ambiguity"
-    return found if all(file for _, file in found.values()) else "wheels"
+    return chosen if all(file for _, file in chosen.values()) else "wheels"
 
 
 def tags_in(environment):
@@ -189,11 +189,11 @@ def tags_in(environment):
 def found_in(data, environment):
     """What the rules install there, in the same form."""
     try:
-        found = installed_by(data, Installing(environment, tags_in(environment)))
+        installed = installed_by(data, Installing(environment, tags_in(environment)))
     except Refused as fault:
         return fault.step
-    files = {it.package["name"]: it.source["name"] for it in found}
-    return {name: (entry, files[name]) for name, entry in entries_of(found).items()}
+    files = {item.package["name"]: item.source["name"] for item in installed}
+    return {name: (entry, files[name]) for name, entry in entries_of(installed).items()}
 
 
 class Drawn(unittest.TestCase):
@@ -223,10 +223,10 @@ class Drawn(unittest.TestCase):
     def check_told(self, data):
         """Each dependency tells one entry, where there are no two of one name, version and marker."""
         lock = tomllib.loads(data.decode())
-        told = [(it["name"], it["version"], it.get("marker")) for it in lock["packages"]]
+        told = [(package["name"], package["version"], package.get("marker")) for package in lock["packages"]]
         if len(set(told)) == len(told):
             check_references(lock)
-            self.seen["told by markers"] += any("marker" in it for package in lock["packages"] for it in package.get("dependencies", []))
+            self.seen["told by markers"] += any("marker" in table for package in lock["packages"] for table in package.get("dependencies", []))
 
     def count_markers(self, targets, data):
         pairs = pairs_of(targets)

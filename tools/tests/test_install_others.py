@@ -46,7 +46,7 @@ LOCKS = (
 def by_the_rules(data, environment, tags):
     """The names and versions that are installed, or that there is an error."""
     try:
-        return sorted((it.package["name"], it.package["version"]) for it in installed_by(data, Installing(environment, tags)))
+        return sorted((item.package["name"], item.package["version"]) for item in installed_by(data, Installing(environment, tags)))
     except Refused:
         return "an error"
 
@@ -68,7 +68,7 @@ class Packaging(unittest.TestCase):
         lock = Pylock.from_dict(tomllib.loads(data.decode()))
         wanted = [tag for text in tags for tag in parse_tag(text)]
         try:
-            return sorted((it.name, str(it.version)) for it, _ in lock.select(environment=environment, tags=wanted))
+            return sorted((package.name, str(package.version)) for package, _ in lock.select(environment=environment, tags=wanted))
         except PylockSelectError:
             return "an error"
 
@@ -83,14 +83,15 @@ def run(command, folder):
 def commands():
     """The calls of installers that may read a lock, each with its Python: pip of two Pythons, and uv."""
     newest = list(pythons().values())[-1]
-    found = [([python, "-m", "pip", "install", "--no-index"], python) for python in dict.fromkeys([sys.executable, newest])]
-    return [*found, ([shutil.which("uv"), "pip", "install", "--no-index", "--python", newest], newest)] if shutil.which("uv") else found
+    calls = [([python, "-m", "pip", "install", "--no-index"], python) for python in dict.fromkeys([sys.executable, newest])]
+    return [*calls, ([shutil.which("uv"), "pip", "install", "--no-index", "--python", newest], newest)] if shutil.which("uv") else calls
 
 
 def package_text(folder, name, version, marker, tags):
     """An entry of wheels, which are made in a folder."""
     files = [wheel(folder / "wheels", name, version, tag=tag) for tag in tags]
-    told = ", ".join(f'{{path = "wheels/{it.name}", hashes = {{sha256 = "{hashlib.sha256(it.read_bytes()).hexdigest()}"}}}}' for it in files)
+    digests = {path.name: hashlib.sha256(path.read_bytes()).hexdigest() for path in files}
+    told = ", ".join(f'{{path = "wheels/{file}", hashes = {{sha256 = "{digest}"}}}}' for file, digest in digests.items())
     text = f'[[packages]]\nname = "{name}"\nversion = "{version}"\nwheels = [{told}]\n'
     return f"{text}marker = {json.dumps(marker)}\n" if marker else text
 
@@ -110,10 +111,10 @@ class Installers(unittest.TestCase):
     def test_install_the_same(self):
         for command, python in self.installers:
             environment = printed(python=python)
-            tags = *(f"py3-none-{it}" for it in environment["platforms"]), "py3-none-any"
+            tags = *(f"py3-none-{platform}" for platform in environment["platforms"]), "py3-none-any"
             for head, packages in LOCKS:
                 folder = new_folder(self.addCleanup)
-                data = (HEAD + head + "".join(package_text(folder, *it) for it in packages)).encode()
+                data = (HEAD + head + "".join(package_text(folder, *entry) for entry in packages)).encode()
                 (folder / "pylock.toml").write_bytes(data)
                 with self.subTest(command=command, lock=data):
                     status, output = run([*command, *self.WORDS], folder)

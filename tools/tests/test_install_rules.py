@@ -112,7 +112,7 @@ ERRORS = (
     ("`vcs.commit-id` is required", "vcs", lock(package('vcs = {type = "git", path = "a"}'))),
     ("`vcs` has a path or a URL", "vcs", lock(package('vcs = {type = "git", commit-id = "c0ffee"}'))),
     ("`directory.path` is required", "directory", lock(package("directory = {editable = true}"))),
-    ("of three entries of a name no two remain", "ambiguity", lock(*(package(marker(it)) for it in (NT, POSIX, f"{NT} or {IN_LINUX}")))),
+    ("of three entries of a name no two remain", "ambiguity", lock(*map(package, map(marker, (NT, POSIX, f"{NT} or {IN_LINUX}"))))),
     ("a marker that doesn't hold is read too", "marker", lock(package(), package(marker("os_name = 'nt'")))),
     ("an expression of `environments` that isn't needed is read too", "marker", lock(package(), head=environments(POSIX, "os_name"))),
 )
@@ -209,14 +209,14 @@ class Rows(unittest.TestCase):
     def test_what_is_installed(self):
         for rule, wanted, text, *more in INSTALLED:
             with self.subTest(rule=rule):
-                found = self.call(text, *more)
-                keys = ", ".join(f"{it.package['name']} {it.key}" for it in found)
-                places = ", ".join(f"{it.package['name']} {place_of(it.source)}" for it in found)
+                installed = self.call(text, *more)
+                keys = ", ".join(f"{item.package['name']} {item.key}" for item in installed)
+                places = ", ".join(f"{item.package['name']} {place_of(item.source)}" for item in installed)
                 self.assertIn(wanted, (keys, places))
 
     def test_the_other_of_two_entries_elsewhere(self):
         text = lock(package(marker(IN_LINUX)), package(marker(ELSEWHERE), SDIST))
-        self.assertEqual([it.key for it in self.call(text, variables=WINDOWS)], ["sdist"])
+        self.assertEqual([item.key for item in self.call(text, variables=WINDOWS)], ["sdist"])
 
     def test_wheels(self):
         for wanted, names in WHEELS:

@@ -15,7 +15,7 @@ from support.program import Program
 from support.rules.asked import are_alike
 from support.rules.edits import Refused, begun
 from support.rules.journals import file_name
-from support.rules.lock_tables import read_lock
+from support.rules.lock_tables import read_lock_table
 from support.rules.locks import read_index
 from support.rules.pins import begun_with
 from support.rules.requirements import cut_lines
@@ -87,11 +87,11 @@ class Drawn(DrawnFiles):
     @staticmethod
     def drawn_environments(draw):
         """Environments by the names of targets, of which some are nearly alike, or are so."""
-        found = {}
+        environments = {}
         for name in sorted(draw.random.sample(NAMES, draw.one((1, 2, 2, 3, 3, 4, 5)))):
-            is_near = found and draw.happens(65)
-            found[name] = draw.other_than(draw.one(list(found.values())), draw.one((0, 0, 1))) if is_near else draw.environment()
-        return found
+            is_near = environments and draw.happens(65)
+            environments[name] = draw.other_than(draw.one(list(environments.values())), draw.one((0, 0, 1))) if is_near else draw.environment()
+        return environments
 
     def drawn_pins(self, draw):
         """Files of pins for some targets, each its target, its name and its bytes."""
@@ -100,8 +100,11 @@ class Drawn(DrawnFiles):
 
     def pins_text(self, draw):
         """Pins that are seldom the newest."""
-        releases = [(name, draw.one(found[1:] or found)) for name, found in self.index.releases.items() if found and draw.happens(80)]
-        return "".join(f"{name}=={canonical(it.version)}\n" for name, it in releases)
+        releases = [
+            (name, draw.one(candidates[1:] or candidates))
+            for name, candidates in self.index.releases.items() if candidates and draw.happens(80)
+        ]
+        return "".join(f"{name}=={canonical(release.version)}\n" for name, release in releases)
 
     # Locks
 
@@ -114,7 +117,7 @@ class Drawn(DrawnFiles):
             words += ["--pins", f"{target}={self.outside / name}" if target else self.outside / name]
         status, output, _ = self.told("init", *words)
         self.assertIn((status, output), [(0, "ok 0\n"), (3, "refused no-solution\n")])
-        locks = {name: read_lock((self.folder / file_name(name)).read_bytes())[2] for name in self.environments} if status == 0 else None
+        locks = {name: read_lock_table((self.folder / file_name(name)).read_bytes())[2] for name in self.environments} if status == 0 else None
         self.assertEqual(locks, self.ruled(lines, self.environments, pins))
         return locks
 
@@ -149,9 +152,9 @@ class Drawn(DrawnFiles):
 
     def check_refused(self, status, output, error, lines):
         """Two targets are told that have a package otherwise, and no question tells them apart."""
-        found = REFUSAL.match(error)
-        self.assertEqual((status, output, found is not None), (2, "", True), error)
-        one, other, name = found.groups()
+        match = REFUSAL.match(error)
+        self.assertEqual((status, output, match is not None), (2, "", True), error)
+        one, other, name = match.groups()
         self.assertLess(one, other)
         self.assertNotEqual(self.locks[one].get(name), self.locks[other].get(name))
         environments = self.environments[one], self.environments[other]
@@ -180,15 +183,15 @@ class Drawn(DrawnFiles):
     def check_going(self, lines, told):
         """A target can go where another one has its environment, which is an earlier one or isn't covered by it. That has the same entries,
         since the file has both."""
-        covering = {told_name(name): found for name, found in told.items()}
+        covering = {told_name(name): covers for name, covers in told.items()}
         wanted, names = [], list(covering)
         for place, name in enumerate(names):
             self.assertIn(name, covering[name])
-            others = [it for it in covering[name] if it != name and (it in names[:place] or name not in covering[it])]
+            others = [other for other in covering[name] if other != name and (other in names[:place] or name not in covering[other])]
             wanted += [(name, other) for other in others[:1]]
-        found = list(map(GOING.fullmatch, lines))
-        self.assertNotIn(None, found, lines)
-        self.assertEqual([it.groups() for it in found], wanted)
+        matches = list(map(GOING.fullmatch, lines))
+        self.assertNotIn(None, matches, lines)
+        self.assertEqual([match.groups() for match in matches], wanted)
         self.seen["can go"] += bool(wanted)
 
 

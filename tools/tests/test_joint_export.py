@@ -13,7 +13,7 @@ from support.places import needs_program
 from support.program import Program
 from support.rules.installs import referred
 from support.rules.journals import file_name
-from support.rules.lock_tables import read_lock
+from support.rules.lock_tables import read_lock_table
 
 PYLOCK = "export", "--format", "pylock"
 MIDDLE = LINUX | {"implementation_version": "3.11.5", "python_full_version": "3.11.5", "python_version": "3.11"}
@@ -38,7 +38,7 @@ class Joint(Program):
         return output.encode()
 
     def entries(self, target=""):
-        return read_lock((self.folder / file_name(target)).read_bytes())[2]
+        return read_lock_table((self.folder / file_name(target)).read_bytes())[2]
 
     def locks(self):
         return {name: self.entries(name) for name in self.environments}
@@ -54,7 +54,7 @@ class Joint(Program):
         return {name: tomllib.loads(self.printed("--target", name).decode()).get("environments", [None])[0] for name in self.environments}
 
     def of_name(self, lock, name):
-        return [it for it in lock["packages"] if it["name"] == name]
+        return [package for package in lock["packages"] if package["name"] == name]
 
 
 @needs_program
@@ -68,7 +68,7 @@ class Printed(Joint):
         lock, markers = self.joint(), self.markers()
         linux, win = (tomllib.loads((self.folder / file_name(name)).read_text(encoding="utf-8")) for name in ("linux", "win"))
         self.assertEqual(set(lock["environments"]), set(markers.values()))
-        self.assertEqual([it["name"] for it in lock["packages"]], ["colorama", "flask", "jinja2", "requests", "urllib3", "werkzeug"])
+        self.assertEqual([package["name"] for package in lock["packages"]], ["colorama", "flask", "jinja2", "requests", "urllib3", "werkzeug"])
         self.assertEqual(lock["packages"], [win["packages"][0] | {"marker": markers["win"]}, *linux["packages"]])
         for key in "created-by", "lock-version", "tool":
             self.assertEqual(lock[key], linux[key])
@@ -77,9 +77,9 @@ class Printed(Joint):
         """Two entries of one version, of which another one needs the one or the other."""
         self.init(b"app\n", *BY_SYSTEM)
         lock, markers = self.joint(), self.markers()
-        self.assertEqual([it["name"] for it in lock["packages"]], ["app", "click", "click", "colorama"])
+        self.assertEqual([package["name"] for package in lock["packages"]], ["app", "click", "click", "colorama"])
         [app], click, [colorama] = (self.of_name(lock, name) for name in ("app", "click", "colorama"))
-        self.assertEqual((colorama["marker"], sum("dependencies" in it for it in click)), (markers["win"], 1))
+        self.assertEqual((colorama["marker"], sum("dependencies" in package for package in click)), (markers["win"], 1))
         self.assertCountEqual(referred(app, lock["packages"]), click)
         for package in click:
             wanted = {markers["win"]} if "dependencies" in package else {markers["linux"], markers["mac"]}
@@ -92,11 +92,11 @@ class Printed(Joint):
         self.init(BY_PYTHON_LINES, *BY_PYTHON)
         lock = self.joint()
         self.assertEqual(set(lock["environments"]), {'python_version >= "3.10"', 'python_version < "3.10"'})
-        told = [(it["name"], it["version"], it.get("marker")) for it in lock["packages"]]
+        told = [(package["name"], package["version"], package.get("marker")) for package in lock["packages"]]
         new, old = 'python_version >= "3.10"', 'python_version < "3.10"'
         self.assertCountEqual(told, [("a", "1", old), ("a", "2", new), ("b", "1", None), ("c", "1", new)])
         [b] = self.of_name(lock, "b")
-        self.assertEqual(sorted((it["name"], it["version"]) for it in b["dependencies"]), [("a", "1"), ("a", "2")])
+        self.assertEqual(sorted((dependency["name"], dependency["version"]) for dependency in b["dependencies"]), [("a", "1"), ("a", "2")])
         self.assertCountEqual(referred(b, lock["packages"]), self.of_name(lock, "a"))
         for python, target in ("3.9.0", "old"), ("3.10.0", "new"), ("3.13.1", "new"), ("3.8.0rc1", "old"):
             minor = ".".join(python.split(".")[:2])
@@ -108,14 +108,14 @@ class Printed(Joint):
         self.lock_for({"new": LINUX, "old": OLDER})
         self.init(b"a\nb; python_version<'3'\n", ("a", "1", [], {"requires_python": ">=3.8"}), ("b", "1", []))
         lock = self.joint()
-        self.assertTrue(all("marker" not in it for it in lock["packages"]))
+        self.assertTrue(all("marker" not in package for package in lock["packages"]))
         self.assertEqual(set(lock["environments"]), {'python_full_version >= "3.8" and python_version >= "3"'})
 
     def test_where_nothing_is_asked_it_is_for_any_environment(self):
         self.init(b"a\n", ("a", "1", ["b"]), ("b", "1", []))
         lock = self.joint()
         self.assertNotIn("environments", lock)
-        self.assertEqual([it["name"] for it in lock["packages"]], ["a", "b"])
+        self.assertEqual([package["name"] for package in lock["packages"]], ["a", "b"])
         self.assertEqual(entries_installed(self.printed(), OLDER), self.entries("win"))
 
     def test_of_locks_of_nothing(self):
@@ -132,7 +132,8 @@ class Printed(Joint):
         self.begin((self.folder / "requirements.txt").read_bytes(), *BY_SYSTEM, ("click", "2", ['colorama; sys_platform=="darwin"']))
         self.assertEqual(self.call("upgrade"), (0, "ok 1\n"))
         lock = self.joint()
-        self.assertEqual([(it["name"], it["version"]) for it in lock["packages"]], [("app", "1"), ("click", "2"), ("click", "2"), ("colorama", "1")])
+        packages = [(package["name"], package["version"]) for package in lock["packages"]]
+        self.assertEqual(packages, [("app", "1"), ("click", "2"), ("click", "2"), ("colorama", "1")])
         self.assertEqual(sorted(self.locked("mac")), ["app", "click", "colorama"])
 
 
@@ -204,13 +205,14 @@ class Refusals(Joint):
             with self.subTest(lines=lines):
                 self.lock_for({"one": OLDER, "two": LINUX})
                 self.begin_apart(lines, *self.RELEASES)
-                self.assertEqual(sorted(it["version"] for it in self.of_name(self.joint(), "a")), ["1", "2"])
+                self.assertEqual(sorted(package["version"] for package in self.of_name(self.joint(), "a")), ["1", "2"])
 
     def test_an_upgrade_brings_them_together(self):
         self.lock_for({"one": LINUX, "two": NEWER})
         self.begin_apart(b"a\nb\n", *self.RELEASES)
         self.assertEqual(self.call("upgrade", "a"), (0, "ok 1\n"))
-        self.assertEqual([(it["name"], it["version"], "marker" in it) for it in self.joint()["packages"]], [("a", "2", False), ("b", "1", False)])
+        packages = [(package["name"], package["version"], "marker" in package) for package in self.joint()["packages"]]
+        self.assertEqual(packages, [("a", "2", False), ("b", "1", False)])
         self.assertEqual(self.call("undo"), (0, "ok 0\n"))
         self.check_refused("a")
 
@@ -243,7 +245,7 @@ class Covers(Joint):
 
     def check_told(self, files, *told, status=0):
         """What is told of files of environments."""
-        self.assertEqual(self.told(*PYLOCK, "--covers", *files), (status, "".join(f"{it}\n" for it in told), ""))
+        self.assertEqual(self.told(*PYLOCK, "--covers", *files), (status, "".join(f"{line}\n" for line in told), ""))
 
     def test_each_file_has_a_line_in_its_order(self):
         self.init(self.LINES, *self.RELEASES)
@@ -269,7 +271,7 @@ class Covers(Joint):
         self.init(b'a; python_version<"3.10" or python_version>="3.10"\n', *self.RELEASES)
         new, old = (self.environment_file(name) for name in ("new", "old"))
         self.check_told([new, old], f"{new}: new", f"{old}: old")
-        self.assertEqual(["marker" in it for it in self.joint()["packages"]], [False])
+        self.assertEqual(["marker" in package for package in self.joint()["packages"]], [False])
 
     def test_the_target_without_a_name(self):
         self.lock_for({"": LINUX})

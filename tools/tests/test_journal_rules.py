@@ -374,11 +374,11 @@ class Laws(Example):
     def test_an_inverse_leads_back(self):
         state = State.of_one(["a\n", "b\n", "c\n", "d\n", "e"], LINUX, ZEROS, {})
         change = Change([(0, ["a\n"], ["x\n", "y\n"]), (2, ["c\n"], []), (5, [], ["z"])], [], (ZEROS, ONES))
-        found = after(state, change)
-        self.assertEqual(found.lines, ["x\n", "y\n", "b\n", "d\n", "e", "z"])
-        self.assertEqual((found.digest, is_minimal(inverse(change))), (ONES, True))
+        changed = after(state, change)
+        self.assertEqual(changed.lines, ["x\n", "y\n", "b\n", "d\n", "e", "z"])
+        self.assertEqual((changed.digest, is_minimal(inverse(change))), (ONES, True))
         self.assertEqual(inverse(change).splices, [(0, ["x\n", "y\n"], ["a\n"]), (3, [], ["c\n"]), (5, ["z"], [])])
-        self.assertEqual(after(found, inverse(change)), state)
+        self.assertEqual(after(changed, inverse(change)), state)
         self.assertIsNone(after(state, inverse(change)))
 
     def test_a_state_has_no_entry_that_nothing_needs(self):
@@ -390,12 +390,12 @@ class Laws(Example):
 
     def test_alterations_are_others_than_the_journal_and_answered(self):
         self.steps.append(step([[4, [], ["d\r\n"]]], [["d", None, entry("d", "1")]]))
-        whole, found, answers = self.journal(), list(altered(self.journal())), set()
-        self.assertEqual(len({text for text, _ in found}), len(found))
-        self.assertNotIn(whole, {data for _, data in found})
-        self.assertIn(("cut at byte 0", b""), found)
-        self.assertEqual(found[-1][0], "lines 2 and 3 exchanged")
-        for _, data in found[::9]:
+        whole, alterations, answers = self.journal(), list(altered(self.journal())), set()
+        self.assertEqual(len({text for text, _ in alterations}), len(alterations))
+        self.assertNotIn(whole, {data for _, data in alterations})
+        self.assertIn(("cut at byte 0", b""), alterations)
+        self.assertEqual(alterations[-1][0], "lines 2 and 3 exchanged")
+        for _, data in alterations[::9]:
             answers.add(opens(self.requirements, {"": self.lock}, data)[0])
         self.assertEqual(answers, {"ok", BROKEN, DISAGREE})
 

@@ -36,7 +36,7 @@ ENVIRONMENTS = {"": LINUX, "older": OLDER, "win": WINDOWS}
 LOCKS = {
     "": ENTRIES,
     "older": [*({**entries, "a": entry("a", "0.9")} for entries in ENTRIES[:3]), ENTRIES[3]],
-    "win": [{name: it for name, it in entries.items() if name not in ("c", "d")} for entries in ENTRIES],
+    "win": [{name: entry_told for name, entry_told in entries.items() if name not in ("c", "d")} for entries in ENTRIES],
 }
 
 
@@ -55,7 +55,7 @@ KINDS = 1, 2, "three targets"
 
 def files(cursor, kind=2):
     """The files at a place in the history, with a journal of a version, or of version 2 with three targets."""
-    locks = {name: lock_text(it, LOCKS[name][cursor], DIGESTS[cursor]) for name, it in ENVIRONMENTS.items()}
+    locks = {name: lock_text(environment, LOCKS[name][cursor], DIGESTS[cursor]) for name, environment in ENVIRONMENTS.items()}
     return files_of(LINES[min(cursor, 2)].encode(), locks, cursor, kind)
 
 

@@ -37,7 +37,10 @@ def freed_by(state, command):
 def some_keep_all(state, command, index):
     """Whether the problem of each target has a solution in which every kept version that is needed stays."""
     problems = problems_after(state, command, index)[1].values()
-    return all(any(all(it.kept.get(name, place) == place for name, place in found.items()) for found in solutions(it)) for it in problems)
+    return all(
+        any(all(problem.kept.get(name, place) == place for name, place in solution.items()) for solution in solutions(problem))
+        for problem in problems
+    )
 
 
 class Sessions(DrawnSessions):
@@ -107,8 +110,8 @@ class Laws(DrawnFiles):
 
     def locks(self):
         """The versions that are locked for each target, by their keys."""
-        found = {name: self.locked(name) for name in self.environments}
-        return {name: {it: order_key(read_version(text)) for it, text in versions.items()} for name, versions in found.items()}
+        locked = {name: self.locked(name) for name in self.environments}
+        return {name: {package: order_key(read_version(text)) for package, text in versions.items()} for name, versions in locked.items()}
 
     def check_laws(self, state, before, command):
         """What isn't freed keeps its version; a lock is the answer exactly where some solution keeps all; and an edit that moves
@@ -155,7 +158,7 @@ class Plugins(Program):
         path = self.outside / "index.json"
         index = json.loads(path.read_text(encoding="utf-8"))
         for package in index["packages"]:
-            package["releases"] = [it for it in package["releases"] if (package["name"], it["version"]) != (name, version)]
+            package["releases"] = [release for release in package["releases"] if (package["name"], release["version"]) != (name, version)]
         path.write_text(json.dumps(index), encoding="utf-8")
 
     def moves(self, *words):

@@ -43,7 +43,7 @@ class Lacking(Program):
     def call_with(self, *packages):
         """What tells how the snapshot is made, which doesn't say how it was made."""
         them = "it" if len(packages) == 1 else "them"
-        words = " ".join(f"'{it}'" if "[" in it else it for it in packages)
+        words = " ".join(f"'{package}'" if "[" in package else package for package in packages)
         file, index = self.folder / "requirements.txt", self.outside / "index.json"
         call = f"    reqlock-snapshot simple https://index.example/simple/ {words} --for {file} --output {index}\n"
         return WITH.format(them, them) + call

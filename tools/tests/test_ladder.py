@@ -28,12 +28,12 @@ class Shapes(unittest.TestCase):
         self.assertEqual(set(SIZES), set(SHAPES))
         with tempfile.TemporaryDirectory() as folder:
             for family, (name, *sizes) in SIZES.items():
-                found = []
+                written = []
                 for _ in range(2):
                     write(family, name, folder)
-                    found.append([(Path(folder) / file).read_bytes() for file in ("index.json", "requirements.txt")])
-                self.assertEqual(found[0], found[1])
-                packages, lines = json.loads(found[0][0])["packages"], found[0][1].decode().splitlines()
+                    written.append([(Path(folder) / file).read_bytes() for file in ("index.json", "requirements.txt")])
+                self.assertEqual(written[0], written[1])
+                packages, lines = json.loads(written[0][0])["packages"], written[0][1].decode().splitlines()
                 releases = [release for package in packages for release in package["releases"]]
                 self.assertEqual([len(packages), len(releases), len(lines)], sizes, family)
                 texts = {text for release in releases for text in release["requires_dist"]} | set(lines)

@@ -44,20 +44,20 @@ class Libraries(unittest.TestCase):
         index.add("a", wheel_of("a", "1"))
         output = self.folder / "index.json"
         done = self.run_tool("snapshot", "simple", index.url, "a", "--cache", self.folder / "cache", "--output", output)
-        found = json.loads(output.read_text(encoding="utf-8"))["packages"] if output.exists() else []
-        return done, [release["version"] for package in found for release in package["releases"]]
+        packages = json.loads(output.read_text(encoding="utf-8"))["packages"] if output.exists() else []
+        return done, [release["version"] for package in packages for release in package["releases"]]
 
     def test_what_is_absent_is_named(self):
-        done, found = self.snapshot()
-        self.assertEqual((done.returncode, done.stdout, found), (2, "", []))
+        done, versions = self.snapshot()
+        self.assertEqual((done.returncode, done.stdout, versions), (2, "", []))
         told = f"{sys.executable} has neither the library packaging nor pip, which has a copy: python3 -m pip install packaging"
         self.assertIn(told, done.stderr.splitlines()[-1])
 
     @unittest.skipUnless(PIP and PIP.origin and (Path(PIP.origin).parent / "_vendor" / "urllib3").exists(), "pip has no copies here")
     def test_copies_of_pip_will_do(self):
         (self.folder / "pip").symlink_to(Path(PIP.origin).parent)
-        done, found = self.snapshot()
-        self.assertEqual((done.returncode, found), (0, ["1"]), done.stderr)
+        done, versions = self.snapshot()
+        self.assertEqual((done.returncode, versions), (0, ["1"]), done.stderr)
 
 
 if __name__ == "__main__":

@@ -17,15 +17,15 @@ def head_of(library):
         if not line.startswith("//!"):
             break
         lines.append(line.removeprefix("//!").removeprefix(" "))
-    found = re.search(r"^```rust\n(.*?)^```$", "\n".join(lines), re.DOTALL | re.MULTILINE)
-    return found and found[1]
+    match = re.search(r"^```rust\n(.*?)^```$", "\n".join(lines), re.DOTALL | re.MULTILINE)
+    return match and match[1]
 
 
 def bodies():
     """The body of each example that conformance has, by the library's name."""
     source = (CONFORMANCE / "src/examples.rt").read_text(encoding="utf-8")
-    found = re.findall(r"^fn of_(\w+)\b[^{]*\{\n(.*?)^\}", source, re.DOTALL | re.MULTILINE)
-    return {name: textwrap.dedent(body) for name, body in found if (CRATES / name).is_dir()}
+    examples = re.findall(r"^fn of_(\w+)\b[^{]*\{\n(.*?)^\}", source, re.DOTALL | re.MULTILINE)
+    return {name: textwrap.dedent(body) for name, body in examples if (CRATES / name).is_dir()}
 
 
 def without_layout(code):

@@ -9,7 +9,8 @@ import functools
 import sys
 import unittest
 
-from support.places import IS_LONG, built, new_folder
+from support.once import made_once
+from support.places import IS_LONG, built
 from support.rules.library_scenarios import scenario_text, scenarios, wanted
 
 import growths  # (these stand in tools/)
@@ -128,7 +129,7 @@ class Calls(unittest.TestCase):
 
     @classmethod
     def setUpClass(cls):
-        cls.library = growths.compiled(new_folder(cls.addClassCleanup))
+        cls.library = made_once("growths", growths.compiled) / growths.LIBRARY
 
     def play(self, scenario, number):
         run = growths.run_once([PROGRAM, scenario], self.library, number, mark="call\n", end="answer ")
@@ -139,11 +140,11 @@ class Calls(unittest.TestCase):
     def ample(self, scenario):
         """What a scenario tells with ample memory, and how many growths its call has."""
         run = self.play(scenario, AMPLE)
-        found = told(run.output)
+        ample_told = told(run.output)
         self.assertIsNone(run.refused)
-        self.assertTrue(is_whole(found), run)
+        self.assertTrue(is_whole(ample_told), run)
         self.assertEqual(run.output.decode(), scenario_text(scenario))
-        return found, run.growths
+        return ample_told, run.growths
 
     def without(self, scenario, place):
         word, commands = scenario.split(" ", 1)
@@ -151,13 +152,13 @@ class Calls(unittest.TestCase):
         return self.ample(" ".join((word, "/".join(commands[:place] + commands[place + 1 :]))))[0]
 
     def check(self, scenario):
-        found, count = self.ample(scenario)
-        takes_none = scenario in NEVER + NEEDS_NONE or found[1][0][0] in NOTHING
+        ample_told, count = self.ample(scenario)
+        takes_none = scenario in NEVER + NEEDS_NONE or ample_told[1][0][0] in NOTHING
         self.assertEqual(count == 0, takes_none, scenario)
         for number in numbers(count):
             run = self.play(scenario, number)
             self.assertIsNotNone(run.refused, (scenario, number))
-            self.assertTrue(self.is_right(scenario, told(run.output), found), (scenario, run))
+            self.assertTrue(self.is_right(scenario, told(run.output), ample_told), (scenario, run))
 
     def is_right(self, scenario, run, ample):
         if scenario in ALWAYS:

@@ -18,7 +18,7 @@ from reqlock_tools import fleet_request, markers, refutation_texts, specifiers
 from reqlock_tools.rql import parser
 
 # What writes an operator in the program, and where its sign is drawn by tests and tools.
-SIGNS_OF = TOP / "crates" / "phrases" / "src" / "requirement_text.rt"
+OPERATORS = TOP / "crates" / "pep440" / "src" / "specifier.rt"
 DRAWN = (
     [TOOLS / "requirements_table.py"], [TOOLS / "versions_table.py"], sorted((SUPPORT / "made").glob("*.py")), [TESTS / "test_export_drawn.py"],
     [TESTS / "test_simple_locks.py"], [TESTS / "test_check_refutation.py"], [TOP / "bench" / "generate.py"],
@@ -41,7 +41,7 @@ class Subcommands(unittest.TestCase):
 
     def test_rql_knows_each(self):
         """It hands on those that aren't its own; `tree` is `show --tree`. Those that it lacks take lines by standard input, or files."""
-        known = next(it.choices for it in parser.parser_of()._actions if it.dest == "word")
+        known = next(action.choices for action in parser.parser_of()._actions if action.dest == "word")
         self.assertEqual(self.names - known.keys(), {"batch", "replace", "try"})
         self.assertEqual(parser.PASSED.keys() - self.names, {"tree"})
 
@@ -61,8 +61,8 @@ class Signs(unittest.TestCase):
 
     @classmethod
     def setUpClass(cls):
-        body = SIGNS_OF.read_text(encoding="utf-8").split("pub fn signs_of(")[1].split("\n}\n")[0]
-        cls.signs = set(re.findall(r'=> \("([~=!<>]+)"', body))
+        body = OPERATORS.read_text(encoding="utf-8").split("pub fn sign(")[1].split("\n    }\n")[0]
+        cls.signs = set(re.findall(r'=> "([~=!<>]+)"', body))
 
     def test_are_those_that_the_program_writes(self):
         self.assertGreaterEqual(self.signs, {"~=", "==", "!=", "<=", ">=", "<", ">"})

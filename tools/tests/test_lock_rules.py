@@ -22,8 +22,8 @@ class Locks(unittest.TestCase):
         """What is locked for lines over an index, as `NAME VERSION` with commas between; None where there is no solution."""
         problem = problem_in(lines, *releases)
         best = best_solution(problem)
-        found = None if best is None else ", ".join(f"{name} {it['version']}" for name, it in entries_of(problem, best).items())
-        self.assertEqual(found, wanted)
+        locked = None if best is None else ", ".join(f"{name} {entry['version']}" for name, entry in entries_of(problem, best).items())
+        self.assertEqual(locked, wanted)
 
     def test_pre_releases(self):
         foo = ("foo", "1.0", []), ("foo", "2.0rc1", [])
@@ -175,10 +175,10 @@ class Refutations(unittest.TestCase):
             problem = Problem(cut_lines(draw.requirements()), LINUX, read_index(json.dumps(draw.index()).encode()), {})
             names = list(problem.releases)
             places = product(*([None, *problem.candidates(name)] for name in names))
-            maps = [{name: place for name, place in zip(names, it) if place is not None} for it in places]
-            found = list(solutions(problem))
-            self.assertCountEqual(found, [it for it in maps if is_solution(problem, it)])
-            count += len(found)
+            maps = [{name: place for name, place in zip(names, chosen) if place is not None} for chosen in places]
+            answers = list(solutions(problem))
+            self.assertCountEqual(answers, [chosen for chosen in maps if is_solution(problem, chosen)])
+            count += len(answers)
         self.assertGreater(count, PROBLEMS // 2)
 
     def test_the_empty_conflict_is_reached_where_there_is_no_solution(self):
@@ -200,12 +200,12 @@ def reaches_the_empty_conflict(problem):
     nodes = [(name, extra) for name in problem.releases for extra in (None, "e-1", "f")]
     choices = [Choice(*node, order_key(release.version)) for node in nodes for release in problem.releases[node[0]]]
     left = [frozenset(some) for count in range(4) for some in combinations(choices, count)]
-    found, more = [], True
+    conflicts, more = [], True
     while more:
-        more = [conflict for conflict in left if case_of(problem, conflict, found)]
-        found += more
-        left = [conflict for conflict in left if not any(map(conflict.issuperset, found))]
-    return frozenset() in found
+        more = [conflict for conflict in left if case_of(problem, conflict, conflicts)]
+        conflicts += more
+        left = [conflict for conflict in left if not any(map(conflict.issuperset, conflicts))]
+    return frozenset() in conflicts
 
 
 if __name__ == "__main__":

@@ -125,9 +125,9 @@ class OfATool(Completed):
             if shutil.which(shell):
                 with self.subTest(shell=shell):
                     self.name = "reqlock-hashes"
-                    self.assertEqual({it.rstrip("/") for it in self.offered(shell)}, {"inner", "requirements.txt"})
+                    self.assertEqual({offer.rstrip("/") for offer in self.offered(shell)}, {"inner", "requirements.txt"})
                     self.name = "reqlock-snapshot"
-                    self.assertEqual({it.rstrip("/") for it in self.offered(shell)}, {"simple", "again", "inner"})
+                    self.assertEqual({offer.rstrip("/") for offer in self.offered(shell)}, {"simple", "again", "inner"})
                     self.assertEqual(self.offered(shell, "simple", "--for"), self.offered(shell, "--output"))
         self.assertLessEqual({"--cache", "--only"}, self.all_offered("bash", "simple"))
         self.name = "reqlock-environment"
@@ -153,9 +153,9 @@ class AtATerminal(unittest.TestCase):
         (self.folder / "g h").mkdir()
 
     def shown(self, terminal, wanted):
-        """What comes until it ends with what is wanted, or nothing more does."""
+        """What comes until it has what is wanted, or nothing more does. (zsh tells the terminal to bracket what is pasted, behind that.)"""
         shown = ""
-        while not shown.endswith(wanted) and select.select([terminal], [], [], SECONDS)[0]:
+        while wanted not in shown and select.select([terminal], [], [], SECONDS)[0]:
             shown += os.read(terminal, 4096).decode()
         return shown
 

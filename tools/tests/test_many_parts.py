@@ -6,7 +6,7 @@ from support.made.journals import entry
 from support.made.releases import file_of
 from support.program import HEAD, Program
 from support.rules.journals import opens_in
-from support.rules.lock_tables import read_lock
+from support.rules.lock_tables import read_lock_table
 
 COUNT = 120
 NAMES = [f"p{number:03}" for number in range(COUNT)]
@@ -102,7 +102,7 @@ class Ranges(Program):
     def test_the_newest_that_go_together(self):
         self.begin_ranges(COUNT // 2)
         self.plays((["init"], 0, "ok 0\n"))
-        entries = read_lock((self.folder / "pylock.toml").read_bytes())[2]
+        entries = read_lock_table((self.folder / "pylock.toml").read_bytes())[2]
         self.assertEqual(entries, {"a": entry("a", "63", "b"), "b": entry("b", "60", "c"), "c": entry("c", "10")})
 
     def test_none_that_go_together_are_told_shortly(self):
@@ -118,7 +118,7 @@ class Changed(Program):
     """Steps that change more than a hundred entries, undone and redone."""
 
     def entries(self):
-        return read_lock((self.folder / "pylock.toml").read_bytes())[2]
+        return read_lock_table((self.folder / "pylock.toml").read_bytes())[2]
 
     def check_opens(self, cursor, steps):
         self.plays((["check"], 0, f"ok {cursor}\n"))

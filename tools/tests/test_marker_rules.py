@@ -32,12 +32,12 @@ class Rules(unittest.TestCase):
             ours, wanted = read_set(text), theirs(checker.read_set, text)
             self.assertEqual(ours is None, wanted is None, text)
             for version in versions if wanted is not None else ():
-                found = matches(ours, read_version(version)), checker.matches(wanted, checker.read_version(version))
-                self.assertEqual(found[0], found[1], (text, version))
+                answers = matches(ours, read_version(version)), checker.matches(wanted, checker.read_version(version))
+                self.assertEqual(answers[0], answers[1], (text, version))
 
     def test_markers(self):
         """All that the checker takes, and what was lawful once."""
-        for text in [it for it in MARKER_TEXTS if theirs(checker.holds, it, LINUX) is not None]:
+        for text in [marker for marker in MARKER_TEXTS if theirs(checker.holds, marker, LINUX) is not None]:
             for extra in EXTRAS:
                 self.assertEqual(tree_extras(tree_of(text), LINUX).has(extra), checker.holds(text, LINUX, extra or None), (text, extra))
 
@@ -45,8 +45,9 @@ class Rules(unittest.TestCase):
         for text in REQUIREMENT_TEXTS:
             wanted = theirs(checker.read_requirement, text)
             if wanted:
-                found = need_of(text)
-                self.assertEqual((found.name, {(found.name, extra) for extra in (None, *found.extras)}), (wanted.name, set(wanted.nodes)), text)
+                requirement = need_of(text)
+                nodes = {(requirement.name, extra) for extra in (None, *requirement.extras)}
+                self.assertEqual((requirement.name, nodes), (wanted.name, set(wanted.nodes)), text)
 
 
 if __name__ == "__main__":

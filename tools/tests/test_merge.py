@@ -51,9 +51,9 @@ class Merges(Two):
     def check_undo(self, own):
         """`undo` gives back the own side, but for what the history has to redo."""
         self.assertEqual(self.call("undo")[0], 0)
-        found = self.files()
+        files = self.files()
         for name in self.names()[:-1]:
-            self.assertEqual(found[name], own[name])
+            self.assertEqual(files[name], own[name])
 
     def test_without_attributes_markers_in_locks_do_no_harm(self):
         self.attributes = b""

@@ -40,9 +40,9 @@ class Days(Checkouts):
             self.clone_of(name)
             own[name] = self.files(), self.locked()
             self.git("fetch", "--quiet", self.outside / other, "main:theirs")
-        found = [self.merge_in(name, own) for name in ("one", "two")]
-        self.assertEqual(found[0], found[1])
-        return found[0] is not None
+        merged = [self.merge_in(name, own) for name in ("one", "two")]
+        self.assertEqual(merged[0], merged[1])
+        return merged[0] is not None
 
     def day(self, name, draw):
         """A few edits that are accepted, each a commit."""
@@ -72,9 +72,9 @@ class Days(Checkouts):
             self.check_lock(lock, name, own)
             self.assertEqual(self.call("check")[0], 0)
             self.assertEqual(self.call("undo")[0], 0)
-            found = self.files()
+            files = self.files()
             for file in "requirements.txt", "pylock.toml":
-                self.assertEqual(found[file], own[name][0][file])
+                self.assertEqual(files[file], own[name][0][file])
         return lock
 
     @staticmethod
@@ -90,14 +90,15 @@ class Days(Checkouts):
         """The lock is what the rules make of the lines and both sides' pins. No entry is newer than on both sides where the newer pin of
         both would do."""
         index = read_index((self.outside / "index.json").read_bytes())
-        pins = [{it: read_version(version) for it, version in side.items()} for _, side in sorted(own.values(), key=lambda it: it is not own[name])]
+        sides = sorted(own.values(), key=lambda side: side is not own[name])
+        pins = [{package: read_version(version) for package, version in locked.items()} for _, locked in sides]
         kept = newer_of(pins[0], pins[1].items(), index)
         problem = Problem(cut_lines((self.folder / "requirements.txt").read_text(encoding="utf-8")), LINUX, index, kept)
-        chosen = {it: problem.place_of(it, order_key(read_version(version))) for it, version in lock.items()}
+        chosen = {package: problem.place_of(package, order_key(read_version(version))) for package, version in lock.items()}
         self.assertEqual(chosen, best_solution(problem))
-        for it in chosen.keys() & kept.keys():
-            other = {**chosen, it: problem.place_of(it, order_key(kept[it]))}
-            self.assertFalse(chosen[it] < other[it] and is_solution(problem, other), it)
+        for package in chosen.keys() & kept.keys():
+            other = {**chosen, package: problem.place_of(package, order_key(kept[package]))}
+            self.assertFalse(chosen[package] < other[package] and is_solution(problem, other), package)
 
 
 if __name__ == "__main__":

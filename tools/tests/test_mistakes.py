@@ -24,14 +24,14 @@ class Mistakes(Terminal):
 
     def shown(self, *words, status=1):
         """What a terminal shows of a call that is refused, and that a pipe isn't told more than the fault."""
-        found, _, shown = self.plainly(*words)
-        self.assertEqual((found, found), (status, self.told(*words)[0]), shown)
+        exit_status, _, shown = self.plainly(*words)
+        self.assertEqual((exit_status, exit_status), (status, self.told(*words)[0]), shown)
         return shown
 
     def follow(self, shown, *wanted):
         """Types the commands that are shown, in their order, which are these behind the options."""
         commands = [line[4:] for line in shown.splitlines() if line.startswith("    ")]
-        self.assertEqual([re.sub(" --(dir|index) [^ ]*", "", it) for it in commands], list(wanted), shown)
+        self.assertEqual([re.sub(" --(dir|index) [^ ]*", "", command) for command in commands], list(wanted), shown)
         for command in commands:
             with self.subTest(command=command):
                 words = shlex.split(command)
@@ -63,6 +63,26 @@ class Mistakes(Terminal):
                 self.assertIn(f"\n    reqlock --dir {self.folder} export >locked.txt\n    python3 -m pip install --require-hashes ", shown)
                 self.assertIn("`rql sync`", shown)
         self.assertIn("similar", self.told("install")[2])
+
+    def test_a_subcommand_of_another_program(self):
+        for word, command in ("lock", "relock"), ("compile", "relock"), ("tree", "show --tree"), ("list", "show"), ("freeze", "show"):
+            with self.subTest(word=word):
+                shown = self.shown(word, status=2)
+                self.assertNotIn("similar", shown)
+                self.follow(shown, f"reqlock {command}")
+        for word in "env", "python", "environment", "venv":
+            with self.subTest(word=word):
+                shown = self.shown(word, status=2)
+                self.assertNotIn("similar", shown)
+                self.assertIn("\n    reqlock-environment --python 3.12 --platform linux-x86_64 >environment.json\n    reqlock ", shown)
+                self.assertTrue(shown.endswith(" retarget --env environment.json\n"), shown)
+
+    def test_two_environments_of_one_target(self):
+        environment = self.environment_file("")
+        told = "reqlock: --env twice\nthe target without a name stands twice: of several, each is given as NAME=FILE\n"
+        for words in ["init"], ["retarget"]:
+            with self.subTest(words=words):
+                self.assertEqual(self.told(*words, "--env", environment, "-v"), (2, "", told))
 
     def test_a_name_with_more(self):
         for words, command in (

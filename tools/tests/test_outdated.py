@@ -29,11 +29,11 @@ def holder_text(holder):
 def target_text(told):
     """What is printed of a target."""
     rows = [["name", "locked", "admitted", "newest", "held by"]]
-    for it in told["outdated"]:
-        rows.append([it["name"], it["locked"], it["admitted"] or "-", it["newest"], ", ".join(map(holder_text, it["held_by"]))])
+    for entry in told["outdated"]:
+        rows.append([entry["name"], entry["locked"], entry["admitted"] or "-", entry["newest"], ", ".join(map(holder_text, entry["held_by"]))])
     text = table(rows) if len(rows) > 1 else ""
     for label, key in ("not in the index", "not_in_index"), ("yanked", "yanked"):
-        pins = ", ".join(f"{it['name']} {it['version']}" for it in told[key])
+        pins = ", ".join(f"{entry['name']} {entry['version']}" for entry in told[key])
         text += f"{label}: {pins}\n" if pins else ""
     return (f"target {told['target']}\n" if told["target"] and text else "") + text
 
@@ -120,8 +120,8 @@ class Outdated(DrawnFiles):
         self.assertEqual(self.told("outdated"), (0, outdated_text(wanted), ""))
         self.assertEqual(self.files(), before)
         for target in wanted["targets"]:
-            seen.update("held" if it["held_by"] else "free" for it in target["outdated"])
-            seen.update("none admitted" for it in target["outdated"] if it["admitted"] is None)
+            seen.update("held" if entry["held_by"] else "free" for entry in target["outdated"])
+            seen.update("none admitted" for entry in target["outdated"] if entry["admitted"] is None)
             seen.update("absent" for _ in target["not_in_index"])
 
     def check_current(self, state, cursor, seen):
@@ -153,8 +153,8 @@ class Outdated(DrawnFiles):
         status, reply, _ = self.told("relock")
         self.assertEqual((status, reply[:2]), (0, "ok"))
         self.assertEqual(self.told("diff"), (0, told, ""))
-        found = json.loads(self.told("diff", "--json")[1])
-        self.assertEqual({key: found[key] for key in diff}, diff)
+        difference = json.loads(self.told("diff", "--json")[1])
+        self.assertEqual({key: difference[key] for key in diff}, diff)
         self.put(before)
 
 

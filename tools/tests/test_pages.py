@@ -24,8 +24,8 @@ def headings(page: Path) -> set[str]:
 
 def linked(page: Path) -> set[Path]:
     """The pages to which the links of a page lead."""
-    found = ((page.parent / path).resolve() for path, _ in LINK.findall(page.read_text(encoding="utf-8")) if path)
-    return {path for path in found if path.suffix == ".md" and path.is_file()}
+    paths = ((page.parent / path).resolve() for path, _ in LINK.findall(page.read_text(encoding="utf-8")) if path)
+    return {path for path in paths if path.suffix == ".md" and path.is_file()}
 
 
 def for_users() -> set[Path]:
@@ -37,12 +37,12 @@ def for_users() -> set[Path]:
 
 def sentences(text: str) -> list[str]:
     """The sentences of a page, and what stands before a colon, without tables and indented or fenced blocks. Code is one word."""
-    found = []
+    pieces = []
     for block in re.split(r"\n\s*\n|\n(?=- |\d+\. |\|)", re.sub(r"(?ms)^```.*?^```$", "", text)):
         if not block.startswith(("    ", "#", "|", "![", "<!--")):
             plain = re.sub(r"\]\([^)]*\)", "]", re.sub(r"`[^`]*`", "`x`", " ".join(block.split())))
-            found += re.split(r"(?<=[a-z0-9`)\]][.!?:])\s+|(?<=[.!?]\*\*)\s+", plain)
-    return [sentence for sentence in found if sentence]
+            pieces += re.split(r"(?<=[a-z0-9`)\]][.!?:])\s+|(?<=[.!?]\*\*)\s+", plain)
+    return [sentence for sentence in pieces if sentence]
 
 
 class Pages(unittest.TestCase):
@@ -56,8 +56,8 @@ class Pages(unittest.TestCase):
                         self.assertIn(heading, headings(target))
 
     def test_readme_leads_to_each_page(self) -> None:
-        found = linked(TOP / "README.md")
-        reached = found.union(*map(linked, found))
+        linked_pages = linked(TOP / "README.md")
+        reached = linked_pages.union(*map(linked, linked_pages))
         self.assertEqual({path for path in pages() if path.is_relative_to(TOP / "docs")} - reached, set())
 
     def test_each_page_that_is_named_stands_there(self) -> None:
@@ -68,9 +68,9 @@ class Pages(unittest.TestCase):
 
     def test_pages_for_users_are_short(self) -> None:
         """At most 1,200 words, and nine of ten sentences have fewer than 25. The tables of REFERENCE.md are made of what `--help` prints."""
-        found = for_users()
-        self.assertGreater(len(found), 20)
-        for page in found:
+        user_pages = for_users()
+        self.assertGreater(len(user_pages), 20)
+        for page in user_pages:
             text = page.read_text(encoding="utf-8")
             long = [sentence for sentence in sentences(text) if len(sentence.split()) >= 25]
             with self.subTest(page=page.name, long=long):

@@ -86,7 +86,7 @@ class Drawing(unittest.TestCase):
     def test_what_it_shows_is_told_too(self):
         root = ElementTree.fromstring(picture_of(["\x1b[1m$ a\x1b[0m", "b & c"], "Two lines"))
         self.assertEqual((root.findtext(f"{SVG}title"), root.findtext(f"{SVG}desc")), ("Two lines", "$ a / b & c"))
-        self.assertEqual(["".join(it.itertext()) for it in root.iter(f"{SVG}text")], ["$ a", "b & c"])
+        self.assertEqual(["".join(element.itertext()) for element in root.iter(f"{SVG}text")], ["$ a", "b & c"])
 
 
 if __name__ == "__main__":

@@ -43,7 +43,7 @@ class Hook(Program):
 
     def run_in(self, folder, *words):
         """The status and the output of a command, for a user with nothing at home."""
-        kept = {name: it for name, it in os.environ.items() if not name.startswith(("GIT_", "PRE_COMMIT", "XDG_"))}
+        kept = {name: value for name, value in os.environ.items() if not name.startswith(("GIT_", "PRE_COMMIT", "XDG_"))}
         more = {
             "HOME": str(self.outside), "PATH": f"{PROGRAM.parent}:{os.environ['PATH']}", "PRE_COMMIT_HOME": str(self.outside / "cache"),
             "GIT_CONFIG_NOSYSTEM": "1", "PRE_COMMIT_COLOR": "never",

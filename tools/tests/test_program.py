@@ -61,6 +61,14 @@ class Help(Program):
                 self.assertTrue(any(line.startswith(f"Usage: reqlock {name}") for line in lines))
                 self.assertEqual(words.keys(), own | self.COMMON)
 
+    def test_the_usage_line_names_an_environment_where_one_is_needed(self):
+        for name in self.SUBCOMMANDS:
+            with self.subTest(name=name):
+                lines, _ = self.told_of(name)
+                usage = f"Usage: reqlock {name} [OPTIONS] --env <FILE>"
+                self.assertEqual(usage in lines, name in {"init", "try", "retarget"})
+        self.assertIn("\nUsage: reqlock retarget [OPTIONS] --env <FILE>\n", self.answered("retarget", "--bogus")[2])
+
     def test_each_example_can_be_typed(self):
         self.begin(b"flask\n", ("flask", "1", []))
         for name, text in ("commands.txt", "log\n"), ("new.txt", "flask\n"), ("requirements.txt", "flask\n"):
@@ -292,7 +300,7 @@ class Writing(Program):
     def owners(self):
         """Mode, owner and group of each file."""
         stats = {path.name: path.stat() for path in self.folder.iterdir()}
-        return {name: (stat.S_IMODE(found.st_mode), found.st_uid, found.st_gid) for name, found in stats.items()}
+        return {name: (stat.S_IMODE(file_stat.st_mode), file_stat.st_uid, file_stat.st_gid) for name, file_stat in stats.items()}
 
     def test_a_folder_whose_name_is_no_text(self):
         # the words of the program are texts, so it is called from inside

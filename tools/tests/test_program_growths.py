@@ -13,6 +13,7 @@ from pathlib import Path
 from unittest import mock
 
 from support.made.environments import LINUX, WINDOWS
+from support.once import made_once
 from support.places import IS_LONG, MEMORY, PROGRAM, needs_program, new_folder
 from support.terminals import shown_on_terminal
 
@@ -135,7 +136,7 @@ class Growths(unittest.TestCase):
         outside = new_folder(self.addCleanup)
         self.folder = outside / "files"
         self.folder.mkdir()
-        self.library = growths.compiled(outside)
+        self.library = made_once("growths", growths.compiled) / growths.LIBRARY
         (self.folder / "requirements.txt").write_bytes(REQUIREMENTS)
         self.put_index(INDEX)
         for name, environment in self.environments.items():
@@ -149,10 +150,10 @@ class Growths(unittest.TestCase):
         return f"{name}.json" if name else "environment.json"
 
     def words(self, *words):
-        found = [PROGRAM, "--index", "index.json"]
+        command = [PROGRAM, "--index", "index.json"]
         for name in self.environments:
-            found += ["--env", f"{name}={self.environment_file(name)}" if name else self.environment_file(name)]
-        return [*found, *words]
+            command += ["--env", f"{name}={self.environment_file(name)}" if name else self.environment_file(name)]
+        return [*command, *words]
 
     def prepare(self, *words, reply="ok"):
         """Does a subcommand with ample memory, in the folder itself."""

@@ -54,7 +54,7 @@ def rows() -> Iterator[Row]:
     for page in PAGES:
         crate = ""
         for line in (TOP / "docs" / f"{page}.md").read_text(encoding="utf-8").splitlines():
-            cells = [it.strip() for it in line.split("|")[1:-1]]
+            cells = [cell.strip() for cell in line.split("|")[1:-1]]
             if len(cells) != 3 or cells[0] in ("Crate", "---"):
                 continue
             crate = cells[0].strip("`") or crate
@@ -69,23 +69,23 @@ def sources(crate: str) -> list[Path]:
 @cache
 def stated_in(crate: str) -> dict[str, list[Stated]]:
     """What a crate states, by the names that pages have: `function`, `Type` or `Type::method`; a method of a trait is public."""
-    found: dict[str, list[Stated]] = {}
+    by_name: dict[str, list[Stated]] = {}
     for path in sources(crate):
         for item in ITEM.findall(path.read_text(encoding="utf-8")):
             function = re.match(r"(pub )?fn (\w+)", item)
             if function:
-                found.setdefault(function[2], []).append(Stated(path, bool(function[1]), item))
+                by_name.setdefault(function[2], []).append(Stated(path, bool(function[1]), item))
             head = HEAD.match(item)
             if head is None:
                 continue
             owner = head["type"] or head["self"]
             if head["type"]:
-                found.setdefault(owner, []).append(Stated(path, item.startswith("pub "), item))
+                by_name.setdefault(owner, []).append(Stated(path, item.startswith("pub "), item))
             for method in METHOD.finditer(item):
                 is_public = bool(head["trait"] or head["kind"] == "trait" or method["pub"] or method["pub2"])
                 text = item if head["trait"] else method[0]
-                found.setdefault(f"{owner}::{method['name'] or method['name2']}", []).append(Stated(path, is_public, text))
-    return found
+                by_name.setdefault(f"{owner}::{method['name'] or method['name2']}", []).append(Stated(path, is_public, text))
+    return by_name
 
 
 def stated(crate: str, name: str) -> list[Stated]:
@@ -99,28 +99,28 @@ def modules() -> dict[str, Module]:
     return modules_in(TOP / "crates")
 
 
-def rests_on(it: Stated) -> set[str]:
+def rests_on(statement: Stated) -> set[str]:
     """The definitions that a text's words rest on, by the imports of its file."""
     imports: list[Import] = []
-    for line in re.findall(r"^\s*ghost (use [^;]*);", it.path.read_text(encoding="utf-8"), re.MULTILINE):
+    for line in re.findall(r"^\s*ghost (use [^;]*);", statement.path.read_text(encoding="utf-8"), re.MULTILINE):
         taken = import_of(line)
         known = modules().get(taken.module)
         imports.append(Import(taken.module, {name: name for name in known.items}) if taken.alias and known else taken)
-    here = Module("here", imports, {}, set(), {"here": re.sub(r"\b\w+\.(?=\w+ )", "", it.text)})
-    found = Uses({**modules(), "here": here}, {}).all_from([("here", "here")])
-    return {name for _, name in found}
+    here = Module("here", imports, {}, set(), {"here": re.sub(r"\b\w+\.(?=\w+ )", "", statement.text)})
+    uses = Uses({**modules(), "here": here}, {}).all_from([("here", "here")])
+    return {name for _, name in uses}
 
 
 @cache
 def called_names() -> set[str]:
     """What crates call that the program stands on."""
-    found: set[str] = set()
+    called: set[str] = set()
     for crate in sorted(path.name for path in (TOP / "crates").iterdir()):
         for path in sources(crate) if crate != "conformance" else ():
             for line in path.read_text(encoding="utf-8").splitlines():
                 if not line.lstrip().startswith(("//", "ghost", "ensures")):
-                    found.update(CALL.findall(line))
-    return found
+                    called.update(CALL.findall(line))
+    return called
 
 
 class Promises(unittest.TestCase):
@@ -131,10 +131,10 @@ class Promises(unittest.TestCase):
                 told: set[str] = set()
                 for name in functions:
                     with self.subTest(page=row.page, crate=row.crate, cited=name):
-                        found = stated(row.crate, name)
-                        self.assertTrue(found)
-                        self.assertTrue(any(it.is_public for it in found))
-                        told.update(*map(rests_on, found))
+                        statements = stated(row.crate, name)
+                        self.assertTrue(statements)
+                        self.assertTrue(any(statement.is_public for statement in statements))
+                        told.update(*map(rests_on, statements))
                 for definition in definitions:
                     with self.subTest(page=row.page, crate=row.crate, cited=functions, over=definition):
                         self.assertIn(definition, told)

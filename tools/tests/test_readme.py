@@ -46,9 +46,9 @@ class Blocks(unittest.TestCase):
 class Readme(unittest.TestCase):
     def test_each_command_prints_what_is_shown(self):
         for page in PAGES:
-            found = [block for block in shown_on(page) if not is_of_rql(block)]
-            self.assertTrue(found)
-            for block in found:
+            blocks = [block for block in shown_on(page) if not is_of_rql(block)]
+            self.assertTrue(blocks)
+            for block in blocks:
                 with self.subTest(page=page, block=block), tempfile.TemporaryDirectory() as folder:
                     self.run_block(block, Path(folder) / "checkout")
 
@@ -92,7 +92,7 @@ class Rql(Served):
         [block] = [block for page in PAGES for block in shown_on(page) if is_of_rql(block)]
         for package in json.loads(EXAMPLE.read_text(encoding="utf-8"))["packages"]:
             name = package["name"].lower()
-            self.index.add(name, *(wheel_of(name, it["version"], *it.get("requires_dist", [])) for it in package["releases"]))
+            self.index.add(name, *(wheel_of(name, release["version"], *release.get("requires_dist", [])) for release in package["releases"]))
         self.put_on_path()
         printed = printed_by(block, self.folder, {**self.variables, "PIP_INDEX_URL": self.index.url}, ADDRESS, self.index.url)
         self.assertEqual([text.replace("rql.py: ", "rql: ").splitlines() for text in printed], [shown for _, shown in block])

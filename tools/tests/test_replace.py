@@ -9,7 +9,6 @@ import unittest
 from support.drawn_sessions import DrawnSessions
 from support.made.environments import LINUX, WINDOWS
 from support.made.releases import index_of
-from support.made.sessions import Draw
 from support.places import IS_LONG
 from support.program import Program, limited
 from support.rules.edits import History, Refused, edited, status_of
@@ -53,17 +52,17 @@ class Sessions(DrawnSessions):
 
     def drawn_pins(self, draw):
         """Files of pins, each its target, its name and its bytes, and the options that hand them in. One may be the lock of a target."""
-        found = []
+        files = []
         for place in range(draw.one((0, 1, 1, 2))):
             target = draw.one(["", *self.environments])
             if draw.happens(30):
                 name, data = f"{place}.toml", draw.one(self.locks)
                 self.seen["a lock as pins"] += 1
             else:
-                name, data = f"{place}.txt", "\n".join(self.pin(draw, it) for it in draw.names * 2 if draw.happens(60)).encode()
+                name, data = f"{place}.txt", "\n".join(self.pin(draw, package) for package in draw.names * 2 if draw.happens(60)).encode()
             (self.outside / name).write_bytes(data)
-            found.append((target, name, data))
-        return found, [word for target, name, _ in found for word in ("--pins", f"{target}={self.outside / name}")]
+            files.append((target, name, data))
+        return files, [word for target, name, _ in files for word in ("--pins", f"{target}={self.outside / name}")]
 
     def check_replace(self, draw, history):
         """A replacement by drawn lines, or by the file's own, is what the rules make of it."""
@@ -74,8 +73,8 @@ class Sessions(DrawnSessions):
         keep = ["--keep-locked"] * draw.happens(25)
         reply = self.reply_of(history, lines, files, bool(keep))
         self.seen[reply.removeprefix("refused ").split()[0]] += 1
-        found = self.told("replace", self.outside / "new.txt", *keep, *options)
-        self.assertEqual(found, (status_of(reply), f"{reply}\n", ""), (lines, files))
+        answer = self.told("replace", self.outside / "new.txt", *keep, *options)
+        self.assertEqual(answer, (status_of(reply), f"{reply}\n", ""), (lines, files))
         if reply.startswith("ok"):
             self.check_files(history)
         else:
@@ -117,10 +116,10 @@ class Laws(unittest.TestCase):
             ("", "", ""), ("a1", "", "a1"), ("a3", "", "a3"), ("a1", "a2", "a2"), ("a1", "a3", "a1"), ("a2", "a3", "a2"), ("a3", "a4", "a4"),
             ("b2", "b3", "b3"), ("b4", "b3", "b3"), ("b2", "b4", "b4"), ("c1", "c2", "c2"), ("a1 c1", "b4 c2", "a1 b4 c2"),
         ):
-            sides = [[(it[0], read_version(it[1])) for it in side.split()] for side in (one, other)]
+            sides = [[(pin[0], read_version(pin[1])) for pin in side.split()] for side in (one, other)]
             for own, others in sides, sides[::-1]:
                 with self.subTest(own=own, others=others):
-                    self.assertEqual(newer_of(dict(own), others, index), {it[0]: read_version(it[1]) for it in wanted.split()})
+                    self.assertEqual(newer_of(dict(own), others, index), {pin[0]: read_version(pin[1]) for pin in wanted.split()})
 
 
 class Words(Program):
@@ -142,8 +141,8 @@ class Words(Program):
         self.holds(text)
         self.assertEqual(self.locked(), {"base": "3", "tool": "1", "web": "2"})
         self.plays((["undo"], 0, "ok 0\n"))
-        self.assertEqual({name: it for name, it in self.files().items() if name != "reqlock.journal"},
-                         {name: it for name, it in self.first.items() if name != "reqlock.journal"})
+        self.assertEqual({name: data for name, data in self.files().items() if name != "reqlock.journal"},
+                         {name: data for name, data in self.first.items() if name != "reqlock.journal"})
         self.assertEqual(self.told("replace", "-", text=text), (0, "ok 1\n", ""))
         self.holds(text)
         self.assertEqual(self.told("replace", "-", text=text), (0, "same\n", ""))
@@ -215,16 +214,16 @@ class Words(Program):
     def test_both_sides_of_a_merge_where_the_index_lacks_a_pin(self):
         """Each side's lock is handed in to the other; the releases of one are gone from the index, or of both."""
         new = self.write(b"web\n")
-        found = []
+        answers = []
         for gone in ["3"], ["2"], ["2", "3"], ["1", "2"]:
             for own, other in ("2", "3"), ("3", "2"):
                 for keep in [], ["--keep-locked"]:
                     self.begin(f"web=={own}\n".encode(), *RELEASES)
                     self.assertEqual(self.call("init"), (0, "ok 0\n"))
-                    self.begin(f"web=={own}\n".encode(), *(it for it in RELEASES if it[0] != "web" or it[1] not in gone))
+                    self.begin(f"web=={own}\n".encode(), *(release for release in RELEASES if release[0] != "web" or release[1] not in gone))
                     told = self.told("replace", new, "--pins", self.write(f"web=={other}".encode(), "pins"), *keep)
-                    found.append((told, self.locked()["web"] if told[0] == 0 else ""))
-        sides = [found[place : place + 2] for place in range(0, len(found), 2)]
+                    answers.append((told, self.locked()["web"] if told[0] == 0 else ""))
+        sides = [answers[place : place + 2] for place in range(0, len(answers), 2)]
         self.assertEqual(sides[::2], sides[1::2])
         accepted, refused = (0, "ok 1\n", ""), (3, "refused no-solution\n", "")
         self.assertEqual(sides[::2], [

@@ -10,11 +10,14 @@ PARSING = "parse_args", "parse_known_args", "parse_intermixed_args"
 
 
 def is_frozen(node):
-    return isinstance(node, ast.ClassDef) and any(ast.unparse(it) == "dataclass(frozen=True)" for it in node.decorator_list)
+    if not isinstance(node, ast.ClassDef):
+        return False
+    made_so = {ast.unparse(node) for node in [*node.decorator_list, *node.bases]}
+    return not made_so.isdisjoint(("dataclass(frozen=True)", "NamedTuple"))
 
 
 def requests_in(tree):
-    """The names of frozen dataclasses, and those of unions of these."""
+    """The names of frozen dataclasses and of named tuples, and those of unions of these."""
     names = {node.name for node in tree.body if is_frozen(node)}
     unions = [node for node in tree.body if isinstance(node, ast.Assign) and isinstance(node.value, ast.BinOp)]
     return names | {ast.unparse(node.targets[0]) for node in unions if names.issuperset(ast.unparse(node.value).split(" | "))}
@@ -33,7 +36,7 @@ def parsed_in(function):
     """The names that are given what argparse read."""
     for node in ast.walk(function):
         if isinstance(node, ast.Assign) and isinstance(node.value, ast.Call) and getattr(node.value.func, "attr", "") in PARSING:
-            yield next(it.id for it in ast.walk(node.targets[0]) if isinstance(it, ast.Name))
+            yield next(node.id for node in ast.walk(node.targets[0]) if isinstance(node, ast.Name))
 
 
 def handed_on(function, readers):
@@ -53,13 +56,16 @@ class Requests(unittest.TestCase):
     def setUpClass(cls):
         paths = sorted([*TOOLS.glob("*.py"), *(TOOLS / "reqlock_tools").rglob("*.py")])
         cls.trees = {str(path.relative_to(TOOLS)): ast.parse(path.read_text(encoding="utf-8")) for path in paths}
-        cls.parsing = {path for path, tree in cls.trees.items() if any(any(parsed_in(it)) for it in functions_in(tree))}
+        cls.parsing = {path for path, tree in cls.trees.items() if any(any(parsed_in(function)) for function in functions_in(tree))}
 
     def test_are_made_where_words_are_read(self):
         """A function that takes words as argparse has them makes a request of them, in the module that reads them."""
         requests = set().union(*map(requests_in, self.trees.values()))
-        readers = [(path, it) for path, tree in self.trees.items() for it in functions_in(tree) if has_words(it)]
-        faults = [f"{path}: {it.name}" for path, it in readers if path not in self.parsing or ast.unparse(it.returns) not in requests]
+        readers = [(path, function) for path, tree in self.trees.items() for function in functions_in(tree) if has_words(function)]
+        faults = [
+            f"{path}: {reader.name}" for path, reader in readers
+            if path not in self.parsing or ast.unparse(reader.returns) not in requests
+        ]
         self.assertEqual(faults, [])
 
     def test_are_what_is_handed_on(self):
@@ -67,8 +73,8 @@ class Requests(unittest.TestCase):
         faults = []
         for path in sorted(self.parsing):
             functions = functions_in(self.trees[path])
-            readers = {"getattr", *(it.name for it in functions if has_words(it))}
-            faults += [f"{path}:{line}" for it in functions for line in handed_on(it, readers)]
+            readers = {"getattr", *(function.name for function in functions if has_words(function))}
+            faults += [f"{path}:{line}" for function in functions for line in handed_on(function, readers)]
         self.assertEqual(faults, [])
         self.assertGreater(len(self.parsing), 10)
 

@@ -116,7 +116,7 @@ class Lines(unittest.TestCase):
 
     def test_active(self):
         lines = ["a\n", 'b ; os_name=="nt"\n', "# c\n", 'd ; extra=="x"\n', 'e ; extra!="x"\n']
-        self.assertEqual([it.name for it in active_requirements(lines, LINUX)], ["a", "e"])
+        self.assertEqual([requirement.name for requirement in active_requirements(lines, LINUX)], ["a", "e"])
 
 
 if __name__ == "__main__":

@@ -24,7 +24,7 @@ class Retarget(Program):
 
     def setUp(self):
         super().setUp()
-        self.begin(FILE, *(it for it in RELEASES if it[1] == "1"))
+        self.begin(FILE, *(release for release in RELEASES if release[1] == "1"))
         self.plays((["init"], 0, "ok 0\n"), (["add", "c"], 0, "ok 1\n"))
         self.begin(FILE + b"c\n", *RELEASES)
         self.before = self.files()
@@ -90,7 +90,7 @@ class Steps(Retarget):
     def test_a_journal_is_of_version_3_while_a_step_has_targets(self):
         self.assertEqual(json.loads(self.before[JOURNAL].splitlines()[0])["journal"], 2)
         header, first, step = self.journal()
-        self.assertEqual((header["journal"], [it["name"] for it in header["targets"]]), (3, ["linux", "mac"]))
+        self.assertEqual((header["journal"], [target["name"] for target in header["targets"]]), (3, ["linux", "mac"]))
         self.assertEqual((sorted(first), sorted(step)), (["entries", "lines", "snapshot"], ["entries", "lines", "snapshot", "targets"]))
         self.assertEqual([[name, old and old["python_version"], new and new["python_version"]] for name, old, new in step["targets"]], [
             ["linux", "3.9", "3.12"], ["mac", None, "3.12"], ["win", "3.12", None],
@@ -128,12 +128,12 @@ class Steps(Retarget):
         self.assertEqual(told["targets"], [
             {"target": "linux", "old": OLDER, "new": LINUX}, {"target": "mac", "old": None, "new": MACOS}, {"target": "win", "old": WINDOWS, "new": None},
         ])
-        self.assertEqual([(it["target"], it["name"]) for it in told["entries"]], [
+        self.assertEqual([(entry["target"], entry["name"]) for entry in told["entries"]], [
             ("linux", "old"), ("mac", "a"), ("mac", "b"), ("mac", "c"), ("win", "a"), ("win", "b"), ("win", "c"), ("win", "w"),
         ])
         *others, last = [json.loads(line) for line in self.call("log", "--json")[1].splitlines()]
         self.assertEqual((last["told"], last["targets"]), (f"retarget: {self.TOLD}", told["targets"]))
-        self.assertFalse([it for it in others if "targets" in it])
+        self.assertFalse([step for step in others if "targets" in step])
 
     def test_a_changed_requirements_file_keeps_nothing_back(self):
         """What changed is told of the journal alone then."""
@@ -141,9 +141,10 @@ class Steps(Retarget):
         whole = [self.call("diff", "--json", *places)[1] for places in (["0", "3"], ["1", "2"], ["3", "1"], ["1", "1"])]
         (self.folder / "requirements.txt").write_bytes(b"other\n")
         for places, told in zip((["0", "3"], ["1", "2"], ["3", "1"], ["1", "1"]), whole):
-            found, wanted = json.loads(self.told("diff", "--json", *places)[1]), json.loads(told)
-            self.assertEqual([found[key] for key in ("entries", "index", "from", "to")], [wanted[key] for key in ("entries", "index", "from", "to")])
-            self.assertEqual(found.get("targets"), wanted.get("targets"))
+            difference, wanted = json.loads(self.told("diff", "--json", *places)[1]), json.loads(told)
+            for key in "entries", "index", "from", "to":
+                self.assertEqual(difference[key], wanted[key])
+            self.assertEqual(difference.get("targets"), wanted.get("targets"))
 
 
 class Versions(Retarget):
@@ -186,7 +187,7 @@ class Replies(Retarget):
     """What is answered where nothing is saved."""
 
     def test_the_same_targets_are_the_same(self):
-        self.begin(FILE + b"c\n", *(it for it in RELEASES if it[1] == "1"))
+        self.begin(FILE + b"c\n", *(release for release in RELEASES if release[1] == "1"))
         self.assertEqual(self.retarget({"linux": OLDER, "win": WINDOWS}), (0, "same\n"))
         self.assertEqual(self.files(), self.before)
 

@@ -46,13 +46,13 @@ class Sessions(DrawnSessions):
     @staticmethod
     def drawn_index(draw):
         """Some releases of each name, some of which need other names, on one system or on each."""
-        found = []
+        releases = []
         for place, name in enumerate(NAMES):
             for version in "123":
                 if draw.happens(80) or version == "2":
                     needs = [f"{other}{draw.one(MARKERS)}" for other in NAMES[place + 1 :] if draw.happens(30)]
-                    found.append((name, version, needs))
-        return index_of(*found)
+                    releases.append((name, version, needs))
+        return index_of(*releases)
 
     def count(self, old, new, command):
         """What sessions of other kinds come to isn't counted."""
@@ -64,7 +64,7 @@ class Sessions(DrawnSessions):
 
     def drawn_pins(self, draw, environments):
         """Files of pins, each its target, its name and its bytes, and the options that hand them in. One may be a lock."""
-        found = []
+        files = []
         for place in range(draw.one((0, 0, 1, 2))):
             target = draw.one(["", *environments])
             if draw.happens(40):
@@ -73,8 +73,8 @@ class Sessions(DrawnSessions):
                 pins = [f"{name}=={draw.one('123')}" for name in NAMES if draw.happens(60)]
                 name, data = f"{place}.txt", "\n".join(pins).encode()
             (self.outside / name).write_bytes(data)
-            found.append((target, name, data))
-        return found, [word for target, name, _ in found for word in ("--pins", f"{target}={self.outside / name}")]
+            files.append((target, name, data))
+        return files, [word for target, name, _ in files for word in ("--pins", f"{target}={self.outside / name}")]
 
     def check_retarget(self, draw, history):
         """A retarget is answered as the rules do, and where it isn't accepted the files stay."""

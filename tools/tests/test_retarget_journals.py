@@ -48,10 +48,10 @@ class Altered(Program):
 
     def test_the_step_as_it_was_saved(self):
         self.check_altered(lambda lines: None, None)
-        found = [json.loads(line) for line in self.at[0][JOURNAL].splitlines()]
-        self.assertEqual(found[0]["journal"], 3)
-        self.assertEqual(found[2]["targets"], [["linux", OLDER, LINUX], ["mac", None, MACOS], ["win", WINDOWS, None]])
-        self.assertEqual(["targets" in step for step in found], [True, False, True, False])
+        records = [json.loads(line) for line in self.at[0][JOURNAL].splitlines()]
+        self.assertEqual(records[0]["journal"], 3)
+        self.assertEqual(records[2]["targets"], [["linux", OLDER, LINUX], ["mac", None, MACOS], ["win", WINDOWS, None]])
+        self.assertEqual(["targets" in step for step in records], [True, False, True, False])
 
     def test_what_is_no_step(self):
         linux, mac, win = ["linux", OLDER, LINUX], ["mac", None, MACOS], ["win", WINDOWS, None]
@@ -90,8 +90,8 @@ class Altered(Program):
         """The line at which a journal with these targets in its second step is broken, by the second reading; none where it is a history."""
         lines = [json.loads(line) for line in self.at[place][JOURNAL].splitlines()]
         lines[2]["targets"] = targets
-        found = opens_in(self.at[place] | {JOURNAL: b"".join(map(compact, lines))})
-        return found[1] if found[0] == "journal-broken" else None
+        answer = opens_in(self.at[place] | {JOURNAL: b"".join(map(compact, lines))})
+        return answer[1] if answer[0] == "journal-broken" else None
 
     def test_an_environment_that_is_gone_may_be_another(self):
         """Nothing but the step tells it."""

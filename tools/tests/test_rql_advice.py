@@ -104,7 +104,7 @@ class Coming(Served):
         self.put("pyproject.toml", pyproject)
         for name, names in others.items():
             source = '\nsource = { registry = "https://index.example/simple" }' if name == "uv" else ""
-            packages = (f'[[package]]\nname = "{it}"\nversion = "1"{source}\n' for it in names)
+            packages = (f'[[package]]\nname = "{package}"\nversion = "1"{source}\n' for package in names)
             self.put(f"{name}.lock", "\n".join(packages))
         status, output, errors = self.rql("init", "--index", self.index.url, "--python", "3.11", "--platform", "linux-x86_64")
         self.assertEqual((status, output), (0, "ok 0\n"), errors)
@@ -147,7 +147,7 @@ class Groups(Coming):
             self.accepts("lock", answer="ok 1\n")
             self.assertEqual([name for name, _ in self.locked()], ["flask", "iniconfig", "pytest", "rich", "ruff", "sphinx"])
         with self.subTest("what is taken out of sources isn't locked"):
-            self.assertTrue(any(it.startswith("pyproject.toml:dev: locked too, as `uv sync` installs it") for it in told), told)
+            self.assertTrue(any(line.startswith("pyproject.toml:dev: locked too, as `uv sync` installs it") for line in told), told)
             self.write_sources("pyproject.toml")
             self.accepts("lock", answer="ok 2\n")
             self.assertEqual(self.locked(), [["flask", "1"]])
@@ -156,7 +156,7 @@ class Groups(Coming):
         told = self.init(UV)
         self.assertEqual(self.lines(), "flask  # from pyproject.toml\n")
         names = "pyproject.toml:dev, pyproject.toml:lint, pyproject.toml:docs, pyproject.toml[net]"
-        self.assertTrue(any(it.startswith(f"{names}: not locked") for it in told), told)
+        self.assertTrue(any(line.startswith(f"{names}: not locked") for line in told), told)
 
     def test_what_uv_knows_in_tables_of_its_own(self):
         tables = '[tool.uv]\ndefault-groups = ["docs"]\ndev-dependencies = ["rich"]\n[tool.uv.sources]\nflask = { path = "../flask" }\n'
@@ -190,7 +190,7 @@ class Groups(Coming):
         self.assertIn(f"{group}.docs.dependencies: sphinx: it is optional, so it isn't taken over: rql add 'sphinx>=1,<2' adds it", told)
         self.accepts("add", "sphinx>=1,<2", answer="ok 1\n")
         self.accepts("remove", "pytest", answer="ok 2\n")
-        self.assertTrue(any(it.startswith("only what an index has can be locked, and not near, mine: publish it") for it in told), told)
+        self.assertTrue(any(line.startswith("only what an index has can be locked, and not near, mine: publish it") for line in told), told)
 
     def test_of_poetry_beside_dependencies_of_the_project(self):
         told = self.init('[project]\nname = "app"\ndependencies = ["flask"]\n[tool.poetry.group.test.dependencies]\npytest = "^1"\n')
@@ -250,7 +250,8 @@ class Words(unittest.TestCase):
         return errors.getvalue().splitlines()[-1]
 
     def test_of_commands(self):
-        for word, told in *((it, COMMANDS[it]) for it in ("install", "portable-lock")), ("ad", "rql add?"), ("zzz", "rql --help names all"):
+        known = ((command, COMMANDS[command]) for command in ("install", "portable-lock"))
+        for word, told in *known, ("ad", "rql add?"), ("zzz", "rql --help names all"):
             self.assertEqual(self.told("-q", word, "x"), f"rql: error: there is no command {word!r}: {told}")
         for word, meant in ("instal", "install"), ("uninstal", "uninstall"), ("freez", "freeze"):
             self.assertEqual(self.told(word), f"rql: error: there is no command {word!r}: {COMMANDS[meant]}")
@@ -262,12 +263,12 @@ class Words(unittest.TestCase):
         self.assertEqual(self.told("--bogus", "log"), "rql: error: it doesn't take --bogus")
 
     def test_that_are_told_are_taken(self):
-        texts = {*COMMANDS.values(), *(it for told in OPTIONS.values() for it in told.values())}
+        texts = {*COMMANDS.values(), *(text for told in OPTIONS.values() for text in told.values())}
         calls = {call for text in texts for call in re.findall(r"\brql ([a-z]+)", text)}
         self.assertGreater(len(calls), 8)
         self.assertLessEqual(calls, BUILDERS.keys())
         for text in "env add NAME --python VERSION", "export --format hashes":
-            self.assertTrue(any(f"rql {text}" in it for it in texts), text)
+            self.assertTrue(any(f"rql {text}" in advice for advice in texts), text)
         parsed(["env", "add", "one", "--python", "3.12"])
 
 

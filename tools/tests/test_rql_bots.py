@@ -100,7 +100,8 @@ class Pages(unittest.TestCase):
     def test_the_settings_of_the_page_are_json(self):
         text = (TOP / "docs" / "BOTS.md").read_text(encoding="utf-8")
         blocks = re.findall(r"(?s)```json\n(.*?)```", text)
-        self.assertEqual([sorted(json.loads(it)) for it in blocks], [["enabledManagers", "ignorePaths", "pip_requirements"], ["postUpgradeTasks"]])
+        keys = [sorted(json.loads(block)) for block in blocks]
+        self.assertEqual(keys, [["enabledManagers", "ignorePaths", "pip_requirements"], ["postUpgradeTasks"]])
 
     def test_the_hooks_are_for_the_files_that_they_look_at(self):
         patterns = re.findall("(?m)^  files: '(.*)'$", (TOP / HOOKS).read_text(encoding="utf-8"))[1:]

@@ -28,7 +28,7 @@ class StandIn(Projects):
     def test_words_output_and_status_are_handed_on(self):
         for word in HANDED_ON:
             with self.subTest(word=word):
-                wanted = "".join(f"{it}\n" for it in ("--dir", ".", word, "--long", "a b", "*"))
+                wanted = "".join(f"{argument}\n" for argument in ("--dir", ".", word, "--long", "a b", "*"))
                 self.assertEqual(self.rql(word, "--long", "a b", "*", STATUS="5"), (5, wanted, "told\n"))
 
     def test_tree_is_show(self):
@@ -86,10 +86,10 @@ class StandIn(Projects):
         told = "rql: reqlock is still at it; Ctrl-C ends it\r\n"
         for words, shown in (["log"], told), (["-q", "log"], ""):
             with self.subTest(words=words):
-                found = shown_on_terminal(lambda terminal, words=words: subprocess.Popen(
+                answer = shown_on_terminal(lambda terminal, words=words: subprocess.Popen(
                     [sys.executable, "-B", SCRIPT, *words], cwd=self.folder, env=self.variables, stdout=subprocess.DEVNULL, stderr=terminal
                 ))
-                self.assertEqual(found, (0, shown))
+                self.assertEqual(answer, (0, shown))
         self.assertEqual(self.rql("log"), (0, "done\n", ""))
 
     def test_a_call_that_is_handed_on_waits_for_no_library(self):
@@ -135,8 +135,8 @@ class Real(Program):
         for words in calls:
             with self.subTest(words=words):
                 index = ["--index", ".reqlock/index.json"] * (words[0] in ("show", "export", "skipped"))
-                found = self.typed([sys.executable, "-B", SCRIPT], *words)
-                self.assertEqual(found, self.typed(["reqlock"], *index, *words))
+                answer = self.typed([sys.executable, "-B", SCRIPT], *words)
+                self.assertEqual(answer, self.typed(["reqlock"], *index, *words))
 
     def test_forget(self):
         self.assertEqual(self.typed([sys.executable, "-B", SCRIPT], "forget", "--keep", "0"), (0, b"ok 0\n", b""))

@@ -44,7 +44,7 @@ class Edits(Served):
 
     def named(self):
         """The packages that the kept index has."""
-        return [it["name"] for it in json.loads(self.kept())["packages"]]
+        return [package["name"] for package in json.loads(self.kept())["packages"]]
 
     def test_each_word(self):
         self.begin("")
@@ -73,8 +73,8 @@ class Edits(Served):
     def test_several_texts_all_or_none(self):
         self.begin("")
         before = self.files()
-        found, output, errors = self.rql("add", "rich", "flask>=9", "werkzeug")
-        self.assertEqual((found, output), (3, "refused no-solution\n"))
+        status, output, errors = self.rql("add", "rich", "flask>=9", "werkzeug")
+        self.assertEqual((status, output), (3, "refused no-solution\n"))
         self.assertIn("nothing is changed: 'flask>=9' is refused: rql why --explain 'flask>=9' tells why\n", errors)
         self.assertEqual(self.files(), before)
         self.accepts("add", "rich", "flask", answer="ok 1\nok 2\n")
@@ -111,7 +111,7 @@ class Edits(Served):
         for name in "rich", "flask", "werkzeug", "asgiref":
             self.accepts("add", name)
             indexes.append(self.kept())
-        self.assertEqual([self.kept(it) for it in ("index.json", "index.1.json", "index.2.json")], indexes[-1:-4:-1][:3])
+        self.assertEqual([self.kept(name) for name in ("index.json", "index.1.json", "index.2.json")], indexes[-1:-4:-1][:3])
         self.assertIsNone(self.kept("index.3.json"))
 
     def test_a_name_that_is_asked_for_stays_in_the_index(self):
@@ -145,8 +145,8 @@ class Edits(Served):
         self.begin("rich\n")
         before, kept = self.files(), self.kept()
         self.index.instead[f"{self.index.prefix}flask/"] = [lambda answer: answer.give(403)]
-        found, output, errors = self.rql("add", "flask")
-        self.assertEqual((found, output), (6, ""), errors)
+        status, output, errors = self.rql("add", "flask")
+        self.assertEqual((status, output), (6, ""), errors)
         self.assertIn("403", errors)
         self.assertEqual((self.files(), self.kept()), (before, kept))
 
@@ -265,8 +265,8 @@ class Words(Served):
 
     def given(self, *words, status=0):
         """The words of the call, without those that tell of the folder; the index is an asked one, or the kept one."""
-        found, output, errors = self.rql(*words, STATUS=str(status))
-        self.assertEqual(found, status, errors)
+        exit_status, output, errors = self.rql(*words, STATUS=str(status))
+        self.assertEqual(exit_status, status, errors)
         self.assertIn("told\n", errors)
         words = output.splitlines()
         self.assertEqual(words[:3], ["--dir", ".", "--index"])
@@ -349,13 +349,13 @@ class Exports(Served):
         self.assertNotEqual((self.folder / "lock.toml").read_bytes(), before)
 
     def test_a_lock_without_a_target_is_of_all(self):
-        environments = "".join(f'{it} = {{ python = "3.11", platform = "{it}-x86_64" }}\n' for it in ("linux", "windows"))
+        environments = "".join(f'{system} = {{ python = "3.11", platform = "{system}-x86_64" }}\n' for system in ("linux", "windows"))
         exports = 'exports = [{ file = "deploy/lock.toml", format = "pylock" }]\n'
         self.put("reqlock.toml", f'index = ["{self.index.url}"]\n{exports}[environments]\n{environments}')
         self.accepts("retarget")
         self.accepts("add", "click ; sys_platform == 'win32'")
         lock = tomllib.loads((self.folder / "deploy" / "lock.toml").read_text(encoding="utf-8"))
-        self.assertEqual([(it["name"], "marker" in it) for it in lock["packages"]], [("click", True), ("rich", False)])
+        self.assertEqual([(package["name"], "marker" in package) for package in lock["packages"]], [("click", True), ("rich", False)])
         self.assertEqual(len(lock["environments"]), 2)
         own = self.folder / ".reqlock" / "environment.windows.json"
         self.assertEqual(self.rql("export", "--format", "pylock", "--covers", own)[:2], (0, f"{own}: windows\n"))
@@ -429,9 +429,9 @@ class ApartExports(unittest.TestCase):
         caller = SimpleNamespace(ask=lambda *words: Answer(2, b"", f"error: {self.TOLD}\n\nmore\n".encode()))
         errors = StringIO()
         with redirect_stderr(errors):
-            found = write(project, SimpleNamespace(earlier=lambda: [Path("index.json")]), caller)
+            result = write(project, SimpleNamespace(earlier=lambda: [Path("index.json")]), caller)
         self.assertFalse(place.exists())
-        return found, errors.getvalue()
+        return result, errors.getvalue()
 
     def test_are_told_with_what_the_program_says(self):
         self.assertEqual(self.called(stale_exports), ([f"no-such.toml: it can't be made: {self.TOLD}"], ""))

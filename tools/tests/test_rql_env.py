@@ -34,7 +34,7 @@ class Begun(Served):
         return [line.split() for line in self.rql("env", "list")[1].splitlines()[1:]]
 
     def locks(self):
-        return sorted(it for it in os.listdir(self.folder) if "pylock" in it)
+        return sorted(name for name in os.listdir(self.folder) if "pylock" in name)
 
     def versions(self):
         """The version of rich in each lock."""
@@ -72,7 +72,7 @@ class Steps(Begun):
             self.assertEqual(self.accepts("undo", answer=f"ok {step}\n"), AGAIN)
             self.assertEqual(self.accepts("check", answer=f"ok {step}\n"), "")
             states.append(self.listed())
-        self.assertEqual([sorted(it) for it in states[-2:]], [BOTH, FIRST])
+        self.assertEqual([sorted(state) for state in states[-2:]], [BOTH, FIRST])
         for step, wanted in zip((1, 2, 3, 4), reversed(states[:-1])):
             self.assertEqual(self.accepts("redo", answer=f"ok {step}\n"), AGAIN)
             self.assertEqual(self.accepts("check", answer=f"ok {step}\n"), "")

@@ -47,8 +47,8 @@ class Indexes(Served):
         self.settings(f'"{self.team.url}", "{self.index.url}"')
         for status in 401, 403, 500:
             self.team.instead["/simple/team-tool/"] = [lambda answer, status=status: answer.give(status)]
-            found, output, errors = self.rql("init", PIP_RETRIES="0")
-            self.assertEqual((found, output), (6, ""), errors)
+            exit_status, output, errors = self.rql("init", PIP_RETRIES="0")
+            self.assertEqual((exit_status, output), (6, ""), errors)
             self.assertIn(str(status), errors)
             self.assertEqual(sorted(os.listdir(self.folder)), ["reqlock.toml", "requirements.txt"])
 
@@ -76,7 +76,7 @@ class Choices(Served):
             path = self.folder / name
             shutil.rmtree(path) if path.is_dir() else path.unlink()
         self.put("requirements.txt", f"{line}\n")
-        self.put("reqlock.toml", "".join(f"{it}\n" for it in (*settings, f'index = ["{self.index.url}"]', ENVIRONMENT)))
+        self.put("reqlock.toml", "".join(f"{setting}\n" for setting in (*settings, f'index = ["{self.index.url}"]', ENVIRONMENT)))
         self.accepts("init", answer="ok 0\n")
         return self.rql("show", "rich")[1].split()[1]
 
@@ -125,7 +125,7 @@ class LeftOut(Served):
     def told(self, *words, **variables):
         """What is told of constraints, where that is wanted. It stands at the end."""
         lines = self.rql(*words, **{"CI": "1", **variables})[2].splitlines()
-        first = next((place for place, it in enumerate(lines) if " leaves out " in it), len(lines))
+        first = next((place for place, line in enumerate(lines) if " leaves out " in line), len(lines))
         return lines[first:]
 
     def test_of_what_is_typed_or_printed(self):

@@ -11,7 +11,7 @@ from support.made.served_index import wheel_of
 from support.places import TOP
 from support.rql_projects import ENVIRONMENT, Projects, Served
 
-from reqlock_tools.rql.defaults import VARIABLES_OF_INDEXES, index_of_pip, pip_told
+from reqlock_tools.rql.defaults import VARIABLES_OF_INDEXES, index_of_pip, pip_configuration, pip_told
 from reqlock_tools.rql.poetry import line_of, specifiers_of
 
 UV = """version = 1
@@ -97,8 +97,8 @@ class Begin(Served):
 
     def init(self, *words, status=0):
         """What a call says that begins a project over the index."""
-        found, output, errors = self.rql("init", "--index", self.index.url, "--python", "3.11", "--platform", "linux-x86_64", *words)
-        self.assertEqual(found, status, output + errors)
+        exit_status, output, errors = self.rql("init", "--index", self.index.url, "--python", "3.11", "--platform", "linux-x86_64", *words)
+        self.assertEqual(exit_status, status, output + errors)
         return errors
 
     def locked(self):
@@ -142,8 +142,8 @@ class Begin(Served):
     def test_nothing_stays_where_nothing_can_be_locked(self):
         self.put("requirements.txt", "rich>=9\n")
         before = self.files()
-        found, output, errors = self.rql("init", "--index", self.index.url)
-        self.assertEqual((found, output), (3, "refused no-solution\n"), errors)
+        status, output, errors = self.rql("init", "--index", self.index.url)
+        self.assertEqual((status, output), (3, "refused no-solution\n"), errors)
         self.assertEqual((self.files(), os.listdir(self.folder)), (before, ["requirements.txt"]))
         self.put("requirements.txt", "rich\n-e .\n")
         self.assertIn("requirements.txt: line 2: ", self.init(status=4))
@@ -179,8 +179,8 @@ class Begin(Served):
         self.accepts("constrain", "rich")
         before = self.files()
         (self.folder / "reqlock.toml").unlink()
-        found, output, errors = self.rql("init", "--index", self.index.url)
-        self.assertEqual((found, output), (0, "ok 1\n"), errors)
+        status, output, errors = self.rql("init", "--index", self.index.url)
+        self.assertEqual((status, output), (0, "ok 1\n"), errors)
         self.assertIn('environment = { python = "3.11.0", platform = "linux-x86_64" }', self.files()["reqlock.toml"].decode())
         self.assertEqual({**self.files(), "reqlock.toml": b""}, {**before, "reqlock.toml": b""})
 
@@ -293,7 +293,7 @@ class Indexes(Projects):
                 os.environ.pop(variable, None)
             if not pip_told("--version"):
                 self.skipTest("there is no pip: apt-get install python3-pip")
-            url, origin = index_of_pip()
+            url, origin = index_of_pip(pip_configuration())
         self.assertEqual(origin, "pip install --help")
         self.assertIsNotNone(re.fullmatch("https://[a-z.]+/simple/?", url), url)
 

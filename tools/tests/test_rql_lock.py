@@ -1,6 +1,5 @@
 """Tests of `rql lock` and `rql check`: over hand edits, over what the real git merges, and over settings that differ."""
 
-import os
 import re
 import shutil
 import unittest
@@ -126,8 +125,8 @@ class Merges(Committed):
         self.git("merge", "other", fails=True)
         self.assertEqual(self.rql("lock", "--check")[0], 1)
         self.put("requirements.txt", "rich<2\n\n# tools\nflask\n")
-        found, output, errors = self.rql("-v", "lock")
-        self.assertEqual((found, output), (0, "ok 2\nother side: flask 2\nthis side: rich 1 (there 2)\n"), errors)
+        status, output, errors = self.rql("-v", "lock")
+        self.assertEqual((status, output), (0, "ok 2\nother side: flask 2\nthis side: rich 1 (there 2)\n"), errors)
         self.assertIn("+ reqlock-merge --dir . --index .reqlock/index", errors)
         self.accepts("lock", "--check", answer="ok 2\n")
         self.git("commit", "--quiet", "--message=merged")
@@ -146,8 +145,8 @@ class Merges(Committed):
         self.commit("bound")
         self.git("merge", "other", fails=True)
         self.put("requirements.txt", "rich<2\nflask\n")
-        found, output, errors = self.rql("lock")
-        self.assertEqual((found, output), (1, ""))
+        status, output, errors = self.rql("lock")
+        self.assertEqual((status, output), (1, ""))
         self.assertRegex(errors, r"the other side began another history, by reqlock init or forget; type (rql\.py )?merge --ours")
         self.accepts("merge", "--ours", "--dry-run")
         self.assertEqual(self.rql("lock", "--check")[0], 1)
@@ -232,8 +231,8 @@ class Checks(Served):
         )
         for step, (text, line) in enumerate(told, 1):
             self.settings(text)
-            found, output, errors = self.rql("check")
-            self.assertEqual((found, output), (1, f"ok {step - 1}\n"))
+            status, output, errors = self.rql("check")
+            self.assertEqual((status, output), (1, f"ok {step - 1}\n"))
             self.assertIn(line, errors)
             self.accepts("retarget", answer=f"ok {step}\n")
             self.assertEqual(self.accepts("check", answer=f"ok {step}\n"), "")

@@ -12,19 +12,19 @@ from support.rql_projects import Projects, Served
 from reqlock_tools.rql.other_indexes import default_of, other_indexes, tell_others
 
 PROJECT = '[project]\nname = "app"\ndependencies = ["rich"]\n'
-ONE, TWO, THREE = (f"https://{it}.example/simple/" for it in ("one", "two", "three"))
+ONE, TWO, THREE = (f"https://{name}.example/simple/" for name in ("one", "two", "three"))
 
 
 class Named(Projects):
     """What the tables tell, by the rules of the two tools."""
 
-    def found(self, text):
+    def indexes_in(self, text):
         self.put("pyproject.toml", text)
-        found = other_indexes(self.folder)
-        return [(it.place, it.url, it.kind, it.only) for it in found], default_of(found)
+        indexes = other_indexes(self.folder)
+        return [(index.place, index.url, index.kind, index.only) for index in indexes], default_of(indexes)
 
     def test_of_uv(self):
-        told, default = self.found(
+        told, default = self.indexes_in(
             f'[tool.uv]\nextra-index-url = ["{TWO}"]\n[tool.uv.sources]\ntorch = {{ index = "gpu" }}\nx = {{ path = "../x" }}\n'
             f'[[tool.uv.index]]\nname = "gpu"\nurl = "{THREE}"\nexplicit = true\n[[tool.uv.index]]\n# {ONE}\nurl = "{ONE}"\ndefault = true\n'
         )
@@ -36,7 +36,7 @@ class Named(Projects):
         self.assertEqual(default, (ONE, "pyproject.toml: line 12: tool.uv.index[1]"))
 
     def test_of_poetry(self):
-        told, default = self.found(
+        told, default = self.indexes_in(
             f'[[tool.poetry.source]]\nname = "one"\nurl = "{ONE}"\n[[tool.poetry.source]]\nname = "two"\nurl = "{TWO}"\npriority = "supplemental"\n'
             f'[[tool.poetry.source]]\nname = "three"\nurl = "{THREE}"\npriority = "explicit"\n'
             '[tool.poetry.group.gpu.dependencies]\ntorch = { version = "*", source = "three" }\n'
@@ -50,9 +50,9 @@ class Named(Projects):
             f'[tool.uv]\nindex-url = "{ONE}"\n[[tool.uv.index]]\nurl = "{TWO}"\ndefault = true\n',
             f'[[tool.uv.index]]\nurl = "{ONE}"\n', "[tool.uv]\nindex = 3\nindex-url = 4\nextra-index-url = 5\n", "",
         ):
-            self.assertIsNone(self.found(text)[1], text)
+            self.assertIsNone(self.indexes_in(text)[1], text)
         same = f'[tool.uv]\nindex-url = "{ONE}"\n[[tool.poetry.source]]\nname = "one"\nurl = "{ONE[:-1]}"\n'
-        self.assertEqual(self.found(same)[1][0].rstrip("/"), ONE.rstrip("/"))
+        self.assertEqual(self.indexes_in(same)[1][0].rstrip("/"), ONE.rstrip("/"))
 
 
     def test_how_the_settings_have_them(self):

@@ -25,6 +25,8 @@ FORMS = {
     "    reqlock{options} upgrade {name}": {f"reqlock{OPTIONS} upgrade flask": "rql upgrade flask"},
     "    reqlock{options} upgrade": {f"reqlock{OPTIONS} --dry-run upgrade": "rql upgrade --dry-run"},
     "    reqlock{options} replace --line {name}": {f"reqlock{OPTIONS} replace --line flask 'flask[async]'": "rql set 'flask[async]'"},
+    "    reqlock{options} {words}": {f"reqlock{OPTIONS} relock": "rql relock", "reqlock --dir web show --tree": "rql tree"},
+    "    reqlock{options} retarget --env environment.json": {f"reqlock{OPTIONS} retarget --env environment.json": "rql retarget"},
     "    reqlock{options} outdated": {f"reqlock{OPTIONS} outdated": "rql outdated"},
     "    reqlock{options} {subcommand}": {f"reqlock{OPTIONS} undo": "rql undo", f"reqlock{OPTIONS} redo": "rql redo"},
     "    reqlock show": {"reqlock show": "rql show"},
@@ -64,6 +66,9 @@ FORMS = {
     },
     "    reqlock-merge": {"reqlock-merge --dir web --index index.json": "rql lock"},
     "    reqlock-environment >": {"reqlock-environment >environment.json": None},
+    "    reqlock-environment --python 3.12 --platform linux-x86_64 >environment.json": {
+        "reqlock-environment --python 3.12 --platform linux-x86_64 >environment.json": None,
+    },
     "    reqlock-environment --python {path} --platform linux-x86_64 >environment.json": {
         "reqlock-environment --python 3.11 --platform linux-x86_64 >environment.json": None,
     },
@@ -86,28 +91,31 @@ LITERAL = re.compile(r'"((?:[^"\\]|\\.)*)"')
 
 def texts():
     """The lines of all texts in the program's sources."""
-    found = set()
+    lines = set()
     for path in (TOP / "crates").glob("*/src/**/*.rt"):
-        code = "\n".join(it for it in path.read_text(encoding="utf-8").splitlines() if not it.lstrip().startswith("//"))
-        found.update(line for text in LITERAL.findall(code) for line in text.split("\\n"))
-    return found
+        code = "\n".join(line for line in path.read_text(encoding="utf-8").splitlines() if not line.lstrip().startswith("//"))
+        lines.update(line for text in LITERAL.findall(code) for line in text.split("\\n"))
+    return lines
 
 
 def printed():
-    """Those that name the program or one of its tools. An example of help is the program's."""
-    return {it for it in texts() if re.search(r"\breqlock\b(?![:.])", it) and not it.startswith("Example: ")}
+    """Those that name the program or one of its tools. An example of help, and a usage line, is the program's."""
+    return {
+        line for line in texts()
+        if re.search(r"\breqlock\b(?![:.])", line) and not re.match(r"Example: |reqlock [a-z]+ \[OPTIONS\] ", line)
+    }
 
 
 class Forms(unittest.TestCase):
     def test_of_each_it_is_decided_what_rql_has(self):
-        found = printed()
-        self.assertEqual(found, {*FORMS, *MENTIONS, *found.intersection(SENTENCES)})
+        lines = printed()
+        self.assertEqual(lines, {*FORMS, *MENTIONS, *lines.intersection(SENTENCES)})
 
     def test_the_program_says_each_sentence(self):
         """That names it: in one text, or in one for each of its parts."""
-        found = texts()
-        for part in (part for it in SENTENCES if "reqlock" in it for part in it.split(". ")):
-            self.assertTrue(any(part in text for text in found), part)
+        lines = texts()
+        for part in (part for sentence in SENTENCES if "reqlock" in sentence for part in sentence.split(". ")):
+            self.assertTrue(any(part in text for text in lines), part)
 
     def test_they_are_told_so(self):
         here = Here(question=("--replace", "new.txt"))
@@ -185,8 +193,8 @@ class Advised(Served):
 
     def advice(self, *words, status=1, **variables):
         """The calls that a terminal shows where a call is refused. None of them is of the program."""
-        found, shown = self.shown(*words, **variables)
-        self.assertEqual(found, status, shown)
+        exit_status, shown = self.shown(*words, **variables)
+        self.assertEqual(exit_status, status, shown)
         self.assertNotRegex(shown, r"(?m)^    reqlock|ask: reqlock|`reqlock")
         return re.findall(r"(?m)^(?:    |ask: )(rql .*)$", shown)
 
@@ -214,8 +222,8 @@ class Advised(Served):
     def test_with_sources_a_question_names_the_edit(self):
         self.begin_from_sources()
         call = "rql why --explain --constrain rich '>=9'"
-        found, _, errors = self.rql("-v", "constrain", "rich", ">=9")
-        self.assertEqual(found, 3)
+        status, _, errors = self.rql("-v", "constrain", "rich", ">=9")
+        self.assertEqual(status, 3)
         self.assertIn(f"ask: {call}\n", errors)
         done = subprocess.run(["sh", "-c", call], cwd=self.folder, env=self.variables, capture_output=True, encoding="utf-8", check=False)
         self.assertEqual(done.returncode, 3)
@@ -237,16 +245,16 @@ class Advised(Served):
         self.begin("rich\n")
         self.put("requirements.txt", "rich\nflask\n")
         self.assertIn("; `rql check -v` says what to type\n", self.rql("log")[2])
-        found, shown = self.shown("check")
-        self.assertEqual(found, 4)
+        status, shown = self.shown("check")
+        self.assertEqual(status, 4)
         self.assertIn("    rql lock\n", shown)
         self.assertEqual(self.types("rql lock"), "ok 1\n")
 
     def test_of_a_lock_that_is_gone(self):
         self.begin("rich<2\n")
         (self.folder / "pylock.toml").unlink()
-        found, shown = self.shown("check")
-        self.assertEqual(found, 4)
+        status, shown = self.shown("check")
+        self.assertEqual(status, 4)
         self.assertIn("\n`rql init` begins a new history with requirements.txt as it stands.\n", shown)
         self.assertIn("pylock.toml: gone, so a new history begins", self.accepts("init", answer="ok 0\n"))
         self.accepts("check", answer="ok 0\n")
@@ -266,8 +274,8 @@ class Advised(Served):
     def test_a_first_lock_that_has_no_solution_says_why(self):
         """Nothing is left of it that could be asked."""
         self.put("requirements.txt", "rich>=9\n")
-        found, _, errors = self.rql("-v", "init", "--index", self.index.url)
-        self.assertEqual(found, 3)
+        status, _, errors = self.rql("-v", "init", "--index", self.index.url)
+        self.assertEqual(status, 3)
         self.assertIn("allows no release of rich", errors)
         self.assertNotIn("ask:", errors)
         self.put("reqlock.toml", f'index = ["{self.index.url}"]\n{ENVIRONMENT}')

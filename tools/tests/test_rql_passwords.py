@@ -59,7 +59,7 @@ class Hidden(unittest.TestCase):
         for text, wanted in (
             (INDEX, "https://index.example/simple/"), ("git+http://token@host", "git+http://host"), ("a https://u:p@q@h/x, b", "a https://h/x, b"),
             ("https://${USER}:${TOKEN}@h/", "https://h/"),
-            *((it, it) for it in ("https://h/a@1", "https://h?a@b", "https://h#a@b", "ssh://git@h/x", "a @ https://h", "http://h https@i")),
+            *((url, url) for url in ("https://h/a@1", "https://h?a@b", "https://h#a@b", "ssh://git@h/x", "a @ https://h", "http://h https@i")),
         ):
             self.assertEqual(hidden(text), wanted)
 

@@ -31,9 +31,9 @@ def of_project(text):
 class Environments(unittest.TestCase):
     def changed(self, text, *environments):
         """The file with these environments; of settings of a project, and of a file of their own."""
-        found = [self.changed_in("reqlock.toml", text, environments), self.changed_in("pyproject.toml", of_project(text), environments)]
-        self.assertEqual(found[1], of_project(found[0]))
-        return found[0]
+        files = [self.changed_in("reqlock.toml", text, environments), self.changed_in("pyproject.toml", of_project(text), environments)]
+        self.assertEqual(files[1], of_project(files[0]))
+        return files[0]
 
     def changed_in(self, name, text, environments):
         path = new_folder(self.addCleanup) / name

@@ -59,8 +59,8 @@ class Sourced(unittest.TestCase):
 
     def gathers(self, sources, *lines):
         """Each line is its text and the label of its source."""
-        found = gather(self.top, sources).decode()
-        self.assertEqual(found, "".join(f"{text}  # from {label}\n" for text, label in lines))
+        data = gather(self.top, sources).decode()
+        self.assertEqual(data, "".join(f"{text}  # from {label}\n" for text, label in lines))
 
     def refuses(self, source, pattern):
         with self.assertRaisesRegex(SettingsFault, pattern):
@@ -85,8 +85,8 @@ class Pyproject(Sourced):
 
     def test_settings_below_the_top(self):
         self.write("services/one/extra.in", "six\n")
-        found = gathered(self.top, self.top / "services" / "one", ["extra.in", "../../pyproject.toml[test]"])
-        self.assertEqual(found.data, b"six  # from extra.in\npytest>=8  # from ../../pyproject.toml[test]\n")
+        gathered_lines = gathered(self.top, self.top / "services" / "one", ["extra.in", "../../pyproject.toml[test]"])
+        self.assertEqual(gathered_lines.data, b"six  # from extra.in\npytest>=8  # from ../../pyproject.toml[test]\n")
 
     def test_what_is_refused_has_its_place(self):
         for text, source, pattern in (
@@ -176,9 +176,9 @@ class Changes(Sourced):
 
     def edit(self, word, *texts, sources=ALL):
         """The files as an edit leaves them. What is gathered of them is what the edit tells."""
-        before = {it: it.read_bytes() for it in (self.path, self.base)}
+        before = {path: path.read_bytes() for path in (self.path, self.base)}
         change = Sources(self.top, self.top, sources).edited(word, texts)
-        self.assertEqual({it: it.read_bytes() for it in before}, before)
+        self.assertEqual({path: path.read_bytes() for path in before}, before)
         change.write()
         self.assertEqual(gather(self.top, sources), change.data)
 
@@ -191,10 +191,10 @@ class Changes(Sourced):
         self.assertEqual(self.base.read_bytes(), b"# of a team\r\nsix>=1  # small\r\n\r\nrich")
 
     def refused(self, pattern, word, *texts, sources=ALL):
-        before = {it: it.read_bytes() for it in (self.path, self.base)}
+        before = {path: path.read_bytes() for path in (self.path, self.base)}
         with self.assertRaisesRegex(SettingsFault, pattern):
             Sources(self.top, self.top, sources).edited(word, texts)
-        self.assertEqual({it: it.read_bytes() for it in before}, before)
+        self.assertEqual({path: path.read_bytes() for path in before}, before)
 
     def test_of_pyproject_are_exact_to_the_byte(self):
         last = "\"requests [socks] >= 2.8 ; python_version < '4'\",\n"
@@ -260,7 +260,7 @@ class Changes(Sourced):
             for name, text in ("base.in", "# of all\n{}# end\n"), ("pyproject.toml", "[project]\nname = 'x'\ndependencies = [{}]\n"):
                 form = "{}\n" if name == "base.in" else "'{}', "
                 self.write(name, text.format("".join(map(form.format, old))))
-                data = "".join(f"{it}  # from {name}\n" for it in new).encode()
+                data = "".join(f"{requirement}  # from {name}\n" for requirement in new).encode()
                 with self.subTest(name=name, old=old, new=new):
                     change = Sources(self.top, self.top, [name]).followed(data)
                     change.write()
@@ -326,8 +326,8 @@ class Calls(Served):
             (("add", "none"), 3), (("remove", "none"), 2), (("remove", "six", "none"), 2), (("constrain", "six", ">=9"), 3), (("undo",), 1),
         ):
             with self.subTest(words=words):
-                found, output, errors = self.rql(*words)
-                self.assertEqual(found, status, output + errors)
+                exit_status, output, errors = self.rql(*words)
+                self.assertEqual(exit_status, status, output + errors)
                 self.assertEqual(self.files(), before)
 
     def test_what_came_apart_is_told_and_mended(self):

@@ -128,7 +128,7 @@ class Stays(Synced):
         self.pip("install", "--no-index", "--editable", str(checkout(self.project / "mine", "mine")))
         self.pip("install", "--no-index", str(checkout(self.project / "other", "other")))
         self.lock({"a": "1"})
-        mine, other = (f"{it} 1.0 stays: it comes from {(self.project / it).as_uri()}; --exact takes it out" for it in ("mine", "other"))
+        mine, other = (f"{name} 1.0 stays: it comes from {(self.project / name).as_uri()}; --exact takes it out" for name in ("mine", "other"))
         self.syncs("+ a 1", told=[mine, other])
         self.assertEqual(self.installed(), {"a": "1", "mine": "1.0", "other": "1.0"})
         with self.subTest("exact"):
@@ -181,7 +181,7 @@ class Stays(Synced):
             self.put(name, "1")
         self.lock({"a": "1"})
         stays = ["packaging 21", "quick 1", "reqlock 0.2.0", "rich 12"]
-        self.syncs("+ a 1", "- left 1", "- slow 1", told=[f"{it} stays: rql needs it" for it in stays])
+        self.syncs("+ a 1", "- left 1", "- slow 1", told=[f"{distribution} stays: rql needs it" for distribution in stays])
         self.assertEqual(self.installed().keys(), {"a", "packaging", "quick", "reqlock", "rich"})
 
 
@@ -198,7 +198,7 @@ class Which(Synced):
         self.syncs("+ a 1", more={"VIRTUAL_ENV": str(active)})
         self.assertEqual(self.installed(), {})
         self.syncs("+ a 1")
-        self.assertEqual([self.installed(it) for it in (named, active, self.venv)], [{"a": "1"}] * 3)
+        self.assertEqual([self.installed(venv) for venv in (named, active, self.venv)], [{"a": "1"}] * 3)
 
     def test_without_one_it_tells_how_one_is_made(self):
         self.lock({"a": "1"})
@@ -432,8 +432,8 @@ class Secrets(Synced):
             end = time.monotonic() + 30
             while not begun and time.monotonic() < end:
                 time.sleep(0.02)
-            found = list((self.project / "tmp").glob("*/.netrc"))
-            modes = [(os.stat(it).st_mode & 0o777, os.stat(it.parent).st_mode & 0o777) for it in found]
+            netrcs = list((self.project / "tmp").glob("*/.netrc"))
+            modes = [(os.stat(netrc).st_mode & 0o777, os.stat(netrc.parent).st_mode & 0o777) for netrc in netrcs]
             child.send_signal(signal.SIGTERM)
             child.communicate(timeout=60)
         self.assertEqual(modes, [(0o600, 0o700)])

@@ -27,14 +27,14 @@ class Begun(Served):
 class Typed(Begun):
     def check_typed(self, *words, status=0, lines=None):
         """A call in one copy of the project, and the call that it tells in another."""
-        one, other = (self.outside / it for it in ("one", "other"))
+        one, other = (self.outside / name for name in ("one", "other"))
         for folder in one, other:
             shutil.rmtree(folder, ignore_errors=True)
             shutil.copytree(self.folder, folder)
             if lines is not None:
                 self.put("requirements.txt", lines, folder)
-        found, output, errors = self.rql("-v", *words, folder=one)
-        self.assertEqual(found, status, errors)
+        exit_status, output, errors = self.rql("-v", *words, folder=one)
+        self.assertEqual(exit_status, status, errors)
         call = [line.removeprefix("+ ") for line in errors.splitlines() if line.startswith("+ reqlock ")][-1]
         for path in (one / ".reqlock").iterdir():
             if not (other / ".reqlock" / path.name).exists():
@@ -42,7 +42,7 @@ class Typed(Begun):
         if not (other / ".reqlock" / "index.asked.json").exists():
             shutil.copy(one / ".reqlock" / "index.json", other / ".reqlock" / "index.asked.json")
         done = subprocess.run(["sh", "-c", call], cwd=other, env=self.variables, capture_output=True, encoding="utf-8", check=False)
-        self.assertEqual((done.returncode, done.stdout), (found, output), call)
+        self.assertEqual((done.returncode, done.stdout), (exit_status, output), call)
         self.assertIn(in_own_words(done.stderr, Here(question=("--replace", *words[1:]))), errors)
         self.assertEqual(self.files(other), self.files(one))
 
@@ -78,8 +78,8 @@ class Words(Begun):
         self.stand_in()
 
     def given(self, *words, status=0):
-        found, output, errors = self.rql(*words, STATUS=str(status))
-        self.assertEqual(found, status, errors)
+        exit_status, output, errors = self.rql(*words, STATUS=str(status))
+        self.assertEqual(exit_status, status, errors)
         self.assertIn("told\n", errors)
         return output.splitlines()
 

@@ -52,8 +52,8 @@ class Week(Committed):
         self.accepts(*words[1:])
 
     def installed(self):
-        found = read_environment(self.folder / ".venv").installed
-        return {name: it.version for name, it in found.items() if name not in ("pip", "setuptools", "wheel")}
+        distributions = read_environment(self.folder / ".venv").installed
+        return {name: distribution.version for name, distribution in distributions.items() if name not in ("pip", "setuptools", "wheel")}
 
     def syncs(self, **versions):
         self.types("rql sync")
@@ -72,7 +72,7 @@ class Week(Committed):
         self.accepts("check")
         self.assertEqual(self.git("status", "--short"), "")
         self.assertLessEqual(self.words, MOST_WORDS)
-        self.assertEqual([it for it in self.git("ls-files").splitlines() if it.endswith(".json")], [])
+        self.assertEqual([path for path in self.git("ls-files").splitlines() if path.endswith(".json")], [])
 
     def start(self):
         """Monday: what is deployed stays, two packages come."""

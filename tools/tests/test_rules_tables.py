@@ -90,8 +90,8 @@ class Versions(unittest.TestCase):
         for (text, *_), marks in rows(VERSIONS, "accept"):
             clauses = read_set(text)
             for versions, mark in zip(ranks, marks, strict=True):
-                found = {matches(clauses, version) for version in versions}
-                self.assertTrue(mark == "-" or found == {mark == "1"}, (text, versions))
+                answers = {matches(clauses, version) for version in versions}
+                self.assertTrue(mark == "-" or answers == {mark == "1"}, (text, versions))
 
 
 class Requirements(unittest.TestCase):
@@ -105,18 +105,18 @@ class Requirements(unittest.TestCase):
                 self.assertFalse(is_read(read_marker, text), text)
                 continue
             for extra, mark in zip(extras, marks, strict=True):
-                found = holds(read_marker(text), self.environment, None if extra == "none" else extra)
-                self.assertEqual(found, mark == "1", (text, extra))
+                held = holds(read_marker(text), self.environment, None if extra == "none" else extra)
+                self.assertEqual(held, mark == "1", (text, extra))
 
     def test_are_read(self):
         versions = [read_version(text) for [text], _ in rows(REQUIREMENTS, "lowest", "above")]
         for [text], answer in rows(REQUIREMENTS, "requirement"):
             name, extras, count, marks, active = answer.split(" ")
-            found = read_requirement(text)
+            requirement = read_requirement(text)
             extras = extras[1:-1].split(",") if extras != "[]" else []
-            self.assertEqual((found.name, list(found.extras), len(found.clauses)), (name, extras, int(count)), text)
-            matched = "".join("01"[matches(found.clauses, version)] for version in versions)
-            held = "-" if found.marker is None else "01"[holds(found.marker, self.environment)]
+            self.assertEqual((requirement.name, list(requirement.extras), len(requirement.clauses)), (name, extras, int(count)), text)
+            matched = "".join("01"[matches(requirement.clauses, version)] for version in versions)
+            held = "-" if requirement.marker is None else "01"[holds(requirement.marker, self.environment)]
             self.assertEqual((matched, held), (marks, active), text)
 
     def test_are_refused(self):

@@ -10,7 +10,7 @@ from support.made.journals import compact
 from support.places import SUPPORT, needs_program
 from support.program import FILES, Program
 from support.rules.journals import opens_in, read_header, read_step
-from support.rules.lock_tables import read_lock
+from support.rules.lock_tables import read_lock_table
 from support.rules.requirements import read_lines
 from support.rules.states import State, after, inverse, is_state
 
@@ -35,7 +35,7 @@ def states_of(name):
     first, *lines = journal.splitlines()
     header = read_header(first)
     changes = [read_step(line, header) for line in lines]
-    present = State.of_one(read_lines(requirements), header.targets[0].environment, *read_lock(lock)[1:])
+    present = State.of_one(read_lines(requirements), header.targets[0].environment, *read_lock_table(lock)[1:])
     states = [present]
     for change in reversed(changes[: header.cursor]):
         states.insert(0, after(states[0], inverse(change)))
@@ -129,7 +129,7 @@ class Sessions(Calls):
         """The requirements file and the lock are those of a state."""
         files = self.files()
         self.assertEqual(read_lines(files["requirements.txt"]), state.lines)
-        self.assertEqual(read_lock(files["pylock.toml"])[1:], (state.digest, state.entries()))
+        self.assertEqual(read_lock_table(files["pylock.toml"])[1:], (state.digest, state.entries()))
 
     def test_undo_and_redo_go_to_the_states_of_the_history(self):
         for name, (cursor, steps, _) in PLACES.items():

@@ -56,6 +56,17 @@ class AllOrNone(Program):
         self.assertEqual(self.batch(text, "-q")[2], "")
         self.assertEqual(self.batch("add none", "-v")[2], "nothing is saved: the command of line 1 was refused first: no versions meet all requirements\n")
 
+    def test_what_is_no_command_of_a_batch_is_told(self):
+        told = (
+            "nothing is saved: the command of line 2 was refused first: this is no command\n"
+            "Its commands are add, remove, constrain, upgrade, relock, undo and redo; replace and retarget are calls of their own.\n"
+        )
+        for line in "retarget --env a=b.json", "replace new.txt", "bogus":
+            with self.subTest(line=line):
+                replies = "ok 1\nrefused bad-command\n"
+                self.assertEqual(self.batch(f"add b\n{line}\n", "-v"), (1, replies, told))
+                self.assertEqual(self.batch(f"add b\n{line}\n"), (1, replies, ""))
+
     def test_locked_versions_are_kept(self):
         self.begin(b"mid\n", ("mid", "1", []), ("mid", "2", []), ("aa", "1", []), ("aa", "2", ["mid<2"]))
         self.assertEqual(self.call("init"), (0, "ok 0\n"))

@@ -285,20 +285,21 @@ class Drawn(Program):
         if self.call("init")[0] != 0:
             return
         wanted = {place: read_line(line) for place, line in enumerate(self.file)}
-        wanted = {place: it for place, it in wanted.items() if it}
-        for place, it in wanted.items():
-            clauses, extras = draw.clauses(), f"[{','.join(it.extras)}]" if it.extras else ""
+        wanted = {place: requirement for place, requirement in wanted.items() if requirement}
+        for place, requirement in wanted.items():
+            clauses, extras = draw.clauses(), f"[{','.join(requirement.extras)}]" if requirement.extras else ""
             active = self.file[place].partition("#")[0].partition(";")[1:]
-            short, text = f"line {place + 1} as constrained", f"{it.name}{extras}{clauses}"
-            if not active[0] and sum(it.name == other.name for other in wanted.values()) == 1:
-                yield self.asked(self.named(place, short, text), "--explain", "--constrain", it.name, *([clauses] if clauses else []))
+            short, text = f"line {place + 1} as constrained", f"{requirement.name}{extras}{clauses}"
+            if not active[0] and sum(requirement.name == other.name for other in wanted.values()) == 1:
+                yield self.asked(self.named(place, short, text), "--explain", "--constrain", requirement.name, *([clauses] if clauses else []))
         for name in self.locked():
             for version in self.versions(name):
                 text = f"{name}=={version}"
                 yield self.asked([*numbered(self.file), ("the version asked for", text)], "--not", text)
 
     def versions(self, name):
-        return [it["version"] for package in json.loads(self.index)["packages"] if package["name"] == name for it in package["releases"]]
+        packages = [package for package in json.loads(self.index)["packages"] if package["name"] == name]
+        return [release["version"] for package in packages for release in package["releases"]]
 
     def test_each_sentence_is_true(self):
         draw, count = Draw(1), 0
@@ -397,7 +398,7 @@ class Planted(unittest.TestCase):
                 self.check(told, *(out | more).items())
         for fewer in ("c", 1), ("a", 6):
             with self.subTest(fewer=fewer), self.assertRaises(Fault):
-                self.check(told, *(it for it in out.items() if it[0] != fewer))
+                self.check(told, *(item for item in out.items() if item[0] != fewer))
 
     def test_what_the_lock_keeps_is_accepted_where_it_does(self):
         for told, kept, others in (KEPT, "1", (None, "2", "4")), (GONE, "4", (None, "1", "5")):
@@ -436,12 +437,12 @@ class Planted(unittest.TestCase):
 
     def test_a_chain_is_as_long_as_it_is_told(self):
         words = {"file": CHAIN_FILE, "index": CHAIN_INDEX}
-        found = [[("k7", 1)], [("k6", 1)], *[None] * 4, [("k1", 1)], [("k0", 1)], []]
-        self.assertEqual(self.stated(CHAIN, **words), found)
+        conflicts = [[("k7", 1)], [("k6", 1)], *[None] * 4, [("k1", 1)], [("k0", 1)], []]
+        self.assertEqual(self.stated(CHAIN, **words), conflicts)
         self.refuses(CHAIN, PLANTED_CHAIN, **words)
         words = {"file": BOUND_FILE, "index": BOUND_INDEX}
-        found = [[(f"k{place}", 2), ("k8", 1)] for place in (6, 5)] + [None] * 3 + [[(f"k{place}", 2), ("k8", 1)] for place in (1, 0)]
-        self.assertEqual(self.stated(BOUND, **words), [*found, [("k0", 2)], []])
+        conflicts = [[(f"k{place}", 2), ("k8", 1)] for place in (6, 5)] + [None] * 3 + [[(f"k{place}", 2), ("k8", 1)] for place in (1, 0)]
+        self.assertEqual(self.stated(BOUND, **words), [*conflicts, [("k0", 2)], []])
         self.refuses(BOUND, PLANTED_BOUND, **words)
         self.assertEqual(self.stated(NOT_NEEDED, **words), self.stated(BOUND, **words))
         self.refuses(NOT_NEEDED, PLANTED_NOT_NEEDED, **words)

@@ -21,10 +21,13 @@ def entry_text(told, target):
     lines = [f"{entry['name']} {entry['version']}"]
     if entry["requires_python"] is not None:
         lines.append(f"  requires Python {entry['requires_python'].strip()}")
-    for it in told["asked_by"]:
-        wanted = f": {it['requirement']}" if it["requirement"] else ""
-        lines.append(f"  line {it['line']}: {it['text']}" if "line" in it else f"  needed by {it['name']} {it['version']}{wanted}")
-    lines += [f"  needs {it['name']} {it['version']}" for it in told["needs"]]
+    for asker in told["asked_by"]:
+        wanted = f": {asker['requirement']}" if asker["requirement"] else ""
+        if "line" in asker:
+            lines.append(f"  line {asker['line']}: {asker['text']}")
+        else:
+            lines.append(f"  needed by {asker['name']} {asker['version']}{wanted}")
+    lines += [f"  needs {need['name']} {need['version']}" for need in told["needs"]]
     for file in [entry["sdist"]] * bool(entry["sdist"]) + entry["wheels"]:
         lines += [f"  file {file['name']}", f"    url {file['url']}", f"    size {file['size']}", f"    sha256 {file['sha256']}"]
     return (f"target {target}\n" if target else "") + "".join(f"{line}\n" for line in lines)
@@ -37,7 +40,7 @@ def row_text(row):
 
 
 def tree_text(targets):
-    parts = [(f"target {it['target']}\n" if it["target"] else "") + "".join(map(row_text, it["tree"])) for it in targets]
+    parts = [(f"target {target['target']}\n" if target["target"] else "") + "".join(map(row_text, target["tree"])) for target in targets]
     return "\n".join(filter(None, parts))
 
 
@@ -121,7 +124,7 @@ class Show(DrawnFiles):
             for call, known in (self.bare, None), (self.told, problems):
                 wanted = told_entries(state, known, name)
                 self.check_json(wanted, call("show", name, "--json"))
-                parts = [entry_text(it, target["target"]) for target in wanted["targets"] for it in target["entries"]]
+                parts = [entry_text(shown, target["target"]) for target in wanted["targets"] for shown in target["entries"]]
                 self.assertEqual(call("show", name), (0, "\n".join(parts), ""))
 
     def check_json(self, wanted, answer):

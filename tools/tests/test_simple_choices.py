@@ -139,7 +139,7 @@ class Choices(Simple):
         files.append(sdist_of("a", "1", told={"upload-time": "2024-06-01T00:00:00+02:00"}))
         index = self.serve({"a": files})
         made, lines = self.made(index, "a", "--exclude-newer", "2024-05-01")
-        self.assertEqual({version: len(it["files"]) for version, it in made["a"].items()}, {"1": 1, "2": 1})
+        self.assertEqual({version: len(release["files"]) for version, release in made["a"].items()}, {"1": 1, "2": 1})
         self.assertEqual(lines, ["left out by --exclude-newer 2024-05-01: 2 files, with 1 whole release"])
         for text, versions in {
             "2024-05-02T00:00:00Z": "123", "20240501": "12", "2024-05-01T02:00+02:00": "1", "2024-05-02T00:00": "123",
@@ -175,7 +175,7 @@ class Choices(Simple):
     def test_without_sdists(self):
         index = self.serve({"a": [sdist_of("a", "1"), sdist_of("a", "2"), wheel_of("a", "2")]})
         made, lines = self.made(index, "a", "--only-binary")
-        self.assertEqual([it["name"] for it in made["a"]["2"]["files"]], ["a-2-py3-none-any.whl"])
+        self.assertEqual([file["name"] for file in made["a"]["2"]["files"]], ["a-2-py3-none-any.whl"])
         self.assertEqual((list(made["a"]), lines), (["2"], ["left out by --only-binary: 2 files, with 1 whole release"]))
         self.assertEqual(index.counts()["GET", "/files/a-1.tar.gz"], 0)
 
@@ -186,8 +186,8 @@ class Choices(Simple):
         files += [wheel_of("a", "4", tag="py2.py3-none-any.wasi"), wheel_of("a", "5", tag="cp27-none-any")]
         index = self.serve({"a": files})
         made, lines = self.made(index, "a", "--for-this-machine")
-        found = {version: [file["name"] for file in it["files"]] for version, it in made["a"].items()}
-        self.assertEqual(found, {"1": [f"a-1-{ours}.whl"], "2": ["a-2.tar.gz"], "4": ["a-4-py2.py3-none-any.wasi.whl"]})
+        names = {version: [file["name"] for file in release["files"]] for version, release in made["a"].items()}
+        self.assertEqual(names, {"1": [f"a-1-{ours}.whl"], "2": ["a-2.tar.gz"], "4": ["a-4-py2.py3-none-any.wasi.whl"]})
         own = f"Python {sys.version_info.major}.{sys.version_info.minor} on {sys.platform} {platform.machine()}"
         self.assertEqual(lines, [
             "left out as no environment takes them: 4 files, with 2 whole releases", f"left out as {own} takes no file of them: a 3, 5",
@@ -219,7 +219,8 @@ class Kept(Simple):
         """The names of the files of `a` by version, where a lock has these versions of it, and the lines of standard error."""
         locks = [word for version in versions for word in ("--keep", self.lock(f"{version}.toml", ("A", version)))]
         made, lines = self.made(index, "a", *words, *locks)
-        return {version: "+".join(file["name"].rpartition(".")[2] for file in it["files"]) for version, it in made["a"].items()}, lines
+        endings = {version: [file["name"].rpartition(".")[2] for file in release["files"]] for version, release in made["a"].items()}
+        return {version: "+".join(of_release) for version, of_release in endings.items()}, lines
 
     def test_of_the_newest(self):
         index = self.serve({"a": [wheel_of("a", version) for version in Choices.VERSIONS]})

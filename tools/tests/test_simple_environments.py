@@ -40,7 +40,7 @@ class Environments(Simple):
 
     def kept(self, index, *environments, names=("a",), words=()):
         """The releases by package, and what is told of those that environments can't install."""
-        words = [*names, *(word for it in environments for word in ("--env", it)), *words]
+        words = [*names, *(word for environment in environments for word in ("--env", environment)), *words]
         versions, lines = self.versions(index, *words)
         return versions, [line for line in lines if "no file of them" in line]
 

@@ -41,12 +41,12 @@ class Hosts(Simple):
 
     def test_a_link_to_an_unknown_host_leaves_that_file_out(self):
         index = self.serve({"a": [wheel_of("a", "1"), wheel_of("a", "2", told={"url": "http://nobody.invalid/a-2-py3-none-any.whl"})]})
-        found = socket.getaddrinfo
+        real = socket.getaddrinfo
 
         def known(host, *words, **more):
             if host == "nobody.invalid":
                 raise socket.gaierror(socket.EAI_NONAME, "Name or service not known")
-            return found(host, *words, **more)
+            return real(host, *words, **more)
 
         with mock.patch("socket.getaddrinfo", side_effect=known):
             versions, lines = self.versions(index, "a")
@@ -57,8 +57,8 @@ class Hosts(Simple):
         files = [self.moved(wheel_of("a", "1")), sdist_of("a", "1", "b"), wheel_of("a", "2"), self.moved(sdist_of("a", "2"))]
         index = self.serve({"a": files, "b": [wheel_of("b", "1")]})
         made, lines = self.made(index, "a")
-        found = {version: [file["name"] for file in release["files"]] for version, release in made["a"].items()}
-        self.assertEqual(found, {"1": ["a-1.tar.gz"], "2": ["a-2-py3-none-any.whl", "a-2.tar.gz"]})
+        names = {version: [file["name"] for file in release["files"]] for version, release in made["a"].items()}
+        self.assertEqual(names, {"1": ["a-1.tar.gz"], "2": ["a-2-py3-none-any.whl", "a-2.tar.gz"]})
         self.assertEqual((made["a"]["1"]["requires_dist"], lines), (["b"], [f"{self.cause}: 1 file"]))
 
     def test_a_file_of_a_locked_release_is_never_left_out(self):

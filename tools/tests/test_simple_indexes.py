@@ -17,33 +17,33 @@ class Indexes(Simple):
             "team-lib": [wheel_of("team-lib", "99", "evil")], "evil": [wheel_of("evil", "1")],
         })
 
-    def found(self, *words, first=None):
+    def origins(self, *words, first=None):
         """The packages with the index that each came from, the versions, and what is told."""
         versions, lines = self.versions(first or self.team, *words)
         places = {self.team.url: "team", self.public.url: "public"}
         made = self.read()["made"]["indexes"]
-        return {name: places[it["url"]] for it in made for name in it["packages"]}, versions, lines
+        return {name: places[index["url"]] for index in made for name in index["packages"]}, versions, lines
 
     def asked(self, index):
         return sorted({path.split("/")[2] for _, path in index.counts() if path.startswith("/simple/")})
 
     def test_the_first_that_has_a_name_is_asked_for_it_alone(self):
         """A public index has a newer version of a private name, and is never asked for it."""
-        found, versions, _ = self.found("team-lib", "--index", self.public.url)
-        self.assertEqual(found, {"team-lib": "team", "requests": "public", "urllib3": "public"})
+        origins, versions, _ = self.origins("team-lib", "--index", self.public.url)
+        self.assertEqual(origins, {"team-lib": "team", "requests": "public", "urllib3": "public"})
         self.assertEqual(versions["team-lib"], ["1"])
         self.assertEqual(self.asked(self.public), ["requests", "urllib3"])
         self.assertEqual(self.asked(self.team), ["requests", "team-lib", "urllib3"])
 
     def test_a_name_that_is_bound_is_asked_of_no_other(self):
         bound = "--only", f"Team_*={self.team.url}"
-        found, versions, _ = self.found("team-lib", "team-new", *bound, first=self.public)
-        self.assertEqual(found, {"team-lib": "team", "requests": "public", "urllib3": "public"})
+        origins, versions, _ = self.origins("team-lib", "team-new", *bound, first=self.public)
+        self.assertEqual(origins, {"team-lib": "team", "requests": "public", "urllib3": "public"})
         self.assertEqual(versions["team-lib"], ["1"])
         self.assertEqual(self.asked(self.public), ["requests", "urllib3"])
         self.assertEqual(self.asked(self.team), ["team-lib", "team-new"])
         made = self.read()["made"]["indexes"]
-        self.assertEqual([it.get("only") for it in made], [None, ["team-*"]])
+        self.assertEqual([index.get("only") for index in made], [None, ["team-*"]])
         data = self.output.read_bytes()
         self.assertEqual(self.again(self.public)[0], 0)
         self.assertEqual(self.output.read_bytes(), data)
@@ -63,7 +63,7 @@ class Indexes(Simple):
         self.assertEqual(self.asked(self.public), [])
         for status in 404, 410:
             self.team.instead[path] = [lambda to, status=status: to.give(status)]
-            self.assertEqual(self.found("team-lib", "--index", self.public.url)[1]["team-lib"], ["99"])
+            self.assertEqual(self.origins("team-lib", "--index", self.public.url)[1]["team-lib"], ["99"])
 
     def test_words_that_bind_nothing_are_told(self):
         for word in "team-*", "=https://i.example/simple/", "a b=https://i.example/simple/", "a=ftp://i.example/", "a=https://me:pa/ss@i.example/":
@@ -136,7 +136,7 @@ class Constraints(Simple):
         self.assertEqual((status, self.output.read_bytes()), (0, data))
         self.assertEqual(lines[0], f"constraints as they were then, of {path}; --constraints FILE reads them anew")
         self.assertEqual(self.again(self.index, "--constraints", path)[0], 0)
-        self.assertEqual([it["version"] for it in self.read()["packages"][1]["releases"]], ["1"])
+        self.assertEqual([release["version"] for release in self.read()["packages"][1]["releases"]], ["1"])
 
     def test_that_cannot_be_read_are_refused(self):
         for name, text, fault in (

@@ -1,6 +1,7 @@
 """What reqlock locks of an index is what pip installs from it: drawn worlds, each an index of the tests' own that snapshot.py, the
 program and the machine's own pip are given. Nothing else is asked."""
 
+import functools
 import json
 import os
 import subprocess
@@ -38,23 +39,29 @@ class World:
         return name + (extras if has_extras else "") + self.chance.choice(SETS)
 
     def releases(self, name):
-        found = []
+        wheels = []
         for version in "1", "2", "3", LATEST:
             others = self.chance.sample([other for other in NAMES if other != name], self.chance.choice((0, 1, 1, 2)))
             needs = [self.requirement(other, self.has_extras) + self.chance.choice(MARKERS) for other in others]
             is_beside, python = self.chance.random() < 0.7, self.chance.choice(PYTHONS)
             told = {"requires-python": python} if python else {}
-            found.append(wheel_of(
+            wheels.append(wheel_of(
                 name, version, *needs, tag=self.chance.choice(TAGS), beside=is_beside, python=python, told=told
             ))
-        return found
+        return wheels
+
+
+@functools.cache
+def python() -> str:
+    """The `python3` of the PATH itself. What may stand in front of it there puts shims in order behind each installation, one call at a time."""
+    return subprocess.check_output(["python3", "-c", "import sys; print(sys.executable)"], encoding="utf-8").strip()
 
 
 def pip(*words):
     """A call of pip that reads no settings of the user."""
     kept = {name: value for name, value in os.environ.items() if not name.startswith(("PIP_", "PYTHON"))}
     variables = {**kept, "PIP_CONFIG_FILE": os.devnull, "PIP_DISABLE_PIP_VERSION_CHECK": "1", "PIP_NO_CACHE_DIR": "1"}
-    command = ["python3", "-m", "pip", *map(str, words)]
+    command = [python(), "-m", "pip", *map(str, words)]
     done = subprocess.run(
         command, env=variables, stdout=subprocess.PIPE, stderr=subprocess.STDOUT, encoding="utf-8", timeout=300, check=False,
     )
@@ -99,8 +106,8 @@ class Locks(Simple):
         )
         self.assertEqual(status, 0, output)
         lock = tomllib.loads((folder / "pylock.toml").read_text(encoding="utf-8"))
-        found = [path.name.removesuffix(".dist-info").split("-") for path in (folder / "site").glob("*.dist-info")]
-        self.assertEqual(dict(found), {it["name"]: it["version"] for it in lock["packages"]})
+        installed = [path.name.removesuffix(".dist-info").split("-") for path in (folder / "site").glob("*.dist-info")]
+        self.assertEqual(dict(installed), {package["name"]: package["version"] for package in lock["packages"]})
 
     def check_has_none(self, folder, index, *_):
         """Where there is no lock, pip finds no versions either."""
@@ -155,7 +162,7 @@ class Locks(Simple):
 
     def check_locked(self, folder, versions):
         lock = tomllib.loads((folder / "pylock.toml").read_text(encoding="utf-8"))
-        self.assertEqual({it["name"]: it["version"] for it in lock["packages"]}, versions)
+        self.assertEqual({package["name"]: package["version"] for package in lock["packages"]}, versions)
 
     def test_of_releases_that_have_wheels_for_others_alone(self):
         index = self.serve({"ant": [wheel_of("ant", "1"), wheel_of("ant", "2", tag="py3-none-win32")]})

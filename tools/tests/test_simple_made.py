@@ -37,9 +37,9 @@ class Made(Simple):
         lock.write_text("[[packages]]\nname = 'Werkzeug'\nversion = '1.0'\n", encoding="utf-8")
         words = ["RICH", "--for", self.lines, "--env", LINUX, "--env", f"win={WINDOWS}", "--no-pre", "--newest", "1", "--keep", lock]
         lines = self.made(self.index, *words, "--limit", "names=50")[1]
-        found = self.read()["made"]
-        left, environments = found.pop("left"), found.pop("environments")
-        self.assertEqual(found, {
+        made = self.read()["made"]
+        left, environments = made.pop("left"), made.pop("environments")
+        self.assertEqual(made, {
             "indexes": [{"url": self.index.url, "packages": ["flask", "rich", "werkzeug"]}], "names": ["rich"], "lines": ["flask"],
             "constraints": [], "keep": ["werkzeug==1.0"], "options": {"no_pre": True, "newest": 1},
             "extras": {}, "lacks": {"names": ["gone"], "extras": {"flask": ["async"]}},
@@ -85,7 +85,7 @@ class Made(Simple):
         self.assertEqual(self.again(self.index, "--for", self.lines)[0], 0)
         self.assertEqual(self.names(), ["rich"])
         self.assertEqual(self.again(self.index, "--env", WINDOWS)[0], 0)
-        self.assertEqual([it["os_name"] for it in self.read()["made"]["environments"]], ["nt"])
+        self.assertEqual([environment["os_name"] for environment in self.read()["made"]["environments"]], ["nt"])
 
     def check_again(self, fault, text):
         self.output.write_text(text, encoding="utf-8")

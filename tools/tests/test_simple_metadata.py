@@ -96,7 +96,7 @@ class Within(Simple):
     def test_is_read_at_its_end(self):
         index = self.check_parts(large_wheel("a", "1"), 1)
         self.made(index, "a", "--cache", self.folder / "other")
-        self.assertEqual([found["Range"] for found in index.headers if "Range" in found], ["bytes=-32768"])
+        self.assertEqual([sent["Range"] for sent in index.headers if "Range" in sent], ["bytes=-32768"])
 
     def test_is_read_where_its_metadata_stands(self):
         self.check_parts(large_wheel("a", "1", is_first=True), 2)
@@ -183,7 +183,7 @@ class Agreement(Simple):
         files = wheel_of("a", "1.0", tag="py2-none-any"), wheel_of("a", "1", tag="py3-none-any"), wheel_of("a", "1.0.0a")
         index = self.serve({"a": files})
         made, _ = self.made(index, "a")
-        self.assertEqual({version: len(it["files"]) for version, it in made["a"].items()}, {"1.0.0a": 1, "1": 2})
+        self.assertEqual({version: len(release["files"]) for version, release in made["a"].items()}, {"1.0.0a": 1, "1": 2})
 
 
 class Sdists(Simple):
@@ -208,7 +208,7 @@ class Sdists(Simple):
             "a: the index has no release of it that can be taken",
         ]))
         made, lines = self.made(index, "a", "--assume-no-dependencies")
-        self.assertEqual({version: it["requires_dist"] for version, it in made["a"].items()}, {"9": [], "10": ["b"]})
+        self.assertEqual({version: release["requires_dist"] for version, release in made["a"].items()}, {"9": [], "10": ["b"]})
         self.assertEqual(lines, [])
 
 
@@ -237,7 +237,7 @@ class Sizes(Simple):
         index.instead["/files/a-1.tar.gz"] = [lambda to: to.give(404)]
         for words in [], ["--offline"]:
             made, lines = self.made(index, "a", *words)
-            self.assertEqual([it["name"] for it in made["a"]["1"]["files"]], ["a-1-py3-none-any.whl"])
+            self.assertEqual([file["name"] for file in made["a"]["1"]["files"]], ["a-1-py3-none-any.whl"])
             self.assertEqual(lines, ["a: 1: left out, for want of a size or sha256: a-1.tar.gz"])
 
 

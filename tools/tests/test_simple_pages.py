@@ -29,19 +29,19 @@ class Pages(Simple):
     def test_give_the_same_in_json_and_in_html(self):
         for has_ranges in True, False:
             index = self.serve(packages(), has_ranges=has_ranges)
-            found = []
+            snapshots = []
             for index.is_html in False, True:
                 made, lines = self.made(index, "Tea_Pot", "--cache", self.folder / f"cache-{index.is_html}")
                 self.assertEqual(lines, ["extras that nobody asks for, and that aren't followed: 1, of 1 package"])
-                found.append(self.output.read_bytes())
-            self.assertEqual(found[0], found[1])
-        self.assertEqual({name: list(it) for name, it in made.items()}, {"cup": ["1.0+b"], "tea-pot": ["1.0", "2.0"]})
+                snapshots.append(self.output.read_bytes())
+            self.assertEqual(snapshots[0], snapshots[1])
+        self.assertEqual({name: list(releases) for name, releases in made.items()}, {"cup": ["1.0+b"], "tea-pot": ["1.0", "2.0"]})
         release = made["tea-pot"]["1.0"]
         self.assertEqual(release["requires_dist"], ["cup (>=1)", "tray ; extra == 'x'"])
         self.assertEqual((release["requires_python"], release["yanked"]), (">=3.8, <4", False))
         files = [index.files[name] for name in ("Tea.Pot-1.0.tar.gz", "tea_pot-1.0-py3-none-any.whl")]
         base = index.url.removesuffix("simple/")
-        wanted = [{"name": it.name, "url": f"{base}files/{it.name}", "size": len(it.data), "sha256": it.sha256} for it in files]
+        wanted = [{"name": file.name, "url": f"{base}files/{file.name}", "size": len(file.data), "sha256": file.sha256} for file in files]
         self.assertEqual(release["files"], wanted)
         self.assertEqual(made["cup"]["1.0+b"]["files"][0]["url"], f"{base}files/cup-1.0%2Bb-py3-none-any.whl")
 
@@ -115,12 +115,12 @@ class OtherPages(Simple):
 
     def test_are_read_as_far_as_browsers_read_them(self):
         link = b"<a href='../../files/cup-1.0%2Bb-py3-none-any.whl#sha256=" + b"0" * 64 + b"'>"
-        for before, found in (
+        for before, count in (
             (b"<!-->", 1), (b"<!-- <b> -->", 1), (b"<!--", 0), (b"<![odd[ ", 0), (b"<?x>", 1), (b"</a x>", 1), (b"<b x='>' y=\">\" z=>>", 1),
             (b"<b '", 0), (b"<script><a></script x>", 1), (b"<title>", 0), (b"< a>", 1), (b"<b href=x href=y/>", 1), (b"<A HREF=x>", 1),
         ):
             page = read_page("https://i.example/simple/cup/", HTML_TYPE, before + link, "cup", Limits())
-            self.assertEqual(len(page.by_name), found, before)
+            self.assertEqual(len(page.by_name), count, before)
 
     def test_are_refused_with_the_place_of_the_fault(self):
         meta = {"meta": {"api-version": "1.0"}}
@@ -234,7 +234,7 @@ class Addresses(Simple):
         index.instead["/simple/a/"] = [lambda to: to.give(302, Location=f"{other.url}a/")]
         self.made(index, "a", url=index.url.replace("//", "//me:secret@"))
         self.assertIn("Authorization", index.headers[0])
-        self.assertEqual([found for found in other.headers if "Authorization" in found], [])
+        self.assertEqual([headers for headers in other.headers if "Authorization" in headers], [])
 
 
 if __name__ == "__main__":

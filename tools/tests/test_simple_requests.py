@@ -215,7 +215,7 @@ class Counts(Simple):
         index.instead[PATH] = [answer]
         for _ in range(3):
             self.assertEqual(self.versions(index, "a")[0], {"a": ["1"]})
-        self.assertEqual([found.get("If-Modified-Since") for found in index.headers if "Accept" in found], [None, stamp, stamp])
+        self.assertEqual([headers.get("If-Modified-Since") for headers in index.headers if "Accept" in headers], [None, stamp, stamp])
 
     def test_as_many_as_are_wanted_are_asked_at_once(self):
         """So many answers wait for one another, so none comes unless so many are asked for at once."""
@@ -392,7 +392,7 @@ class Encrypted(Simple):
             self.assertEqual(self.versions(self.index, "a", "--jobs", "1")[0], {"a": ["1"]})
         self.assertEqual(proxy.asked, [("CONNECT", f"127.0.0.1:{self.index.server.server_port}")])
         self.assertIn("Proxy-Authorization", proxy.headers[0])
-        self.assertEqual([found for found in self.index.headers if "Proxy-Authorization" in found], [])
+        self.assertEqual([headers for headers in self.index.headers if "Proxy-Authorization" in headers], [])
 
 
 class Processes(Simple):

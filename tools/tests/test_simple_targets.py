@@ -26,17 +26,17 @@ MARKERS = "", "; sys_platform == 'win32'", "; sys_platform != 'darwin'", "; pyth
 
 def releases(chance, name):
     """Releases of a package, each with wheels for some platforms or with an sdist, which need others here and there."""
-    found = []
+    archives = []
     for version in "1", "2", "3":
-        others = [it for it in NAMES if it > name and chance.random() < 0.6]
+        others = [other for other in NAMES if other > name and chance.random() < 0.6]
         needs = [f"{other} {chance.choice(MARKERS)}" for other in others]
         if version == "1":
-            found.append(wheel_of(name, version, *needs))
+            archives.append(wheel_of(name, version, *needs))
         elif chance.random() < 0.2:
-            found.append(sdist_of(name, version, *needs))
+            archives.append(sdist_of(name, version, *needs))
         else:
-            found += [wheel_of(name, version, *needs, tag=tag) for tag in chance.sample(TAGS, chance.randint(1, 7))]
-    return found
+            archives += [wheel_of(name, version, *needs, tag=tag) for tag in chance.sample(TAGS, chance.randint(1, 7))]
+    return archives
 
 
 @needs_program

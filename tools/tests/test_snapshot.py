@@ -151,7 +151,7 @@ class Releases(Folder):
 
     def test_leaves_out_yanked_files_beside_others(self):
         release, lines = self.release({"a.json": body(urls=[file("a", yanked=True), file("b", yanked=False)])})
-        self.assertEqual((release["yanked"], [it["name"] for it in release["files"]]), (False, ["b"]))
+        self.assertEqual((release["yanked"], [archive["name"] for archive in release["files"]]), (False, ["b"]))
         self.assertEqual(lines, ["a.json: a 1: left out, as they are yanked and others aren't: a"])
 
     def test_asks_the_release_where_a_file_does_not_tell_whether_it_is_yanked(self):
@@ -161,7 +161,7 @@ class Releases(Folder):
     def test_leaves_out_files_without_sha256_or_size(self):
         files = [file("a", digests={"md5": "0"}), file("b", size=None), file("c"), file("d", digests=None)]
         release, lines = self.release({"a.json": body(urls=files)})
-        self.assertEqual([it["name"] for it in release["files"]], ["c"])
+        self.assertEqual([archive["name"] for archive in release["files"]], ["c"])
         self.assertEqual(lines, ["a.json: a 1: left out, for want of a size or sha256: a, b, d"])
 
     def test_takes_dependencies_of_the_body_of_the_release(self):
@@ -173,14 +173,14 @@ class Releases(Folder):
         releases = {"2": [file("a-2.zip")], "1": [file()]}
         one, two = (body(version, releases=releases, requires_dist=[f"b=={version}"]) for version in "12")
         packages, lines = self.made({"a/json": two, "a/1/json": one, "a/2/json": two})
-        found = [(it["version"], it["requires_dist"]) for it in packages[0]["releases"]]
-        self.assertEqual(found, [("2", ["b==2"]), ("1", ["b==1"])])
+        needs = [(release["version"], release["requires_dist"]) for release in packages[0]["releases"]]
+        self.assertEqual(needs, [("2", ["b==2"]), ("1", ["b==1"])])
         self.assertEqual(lines, ["no document tells of these packages, which others depend on: b"])
 
     def test_puts_packages_together_by_normal_name(self):
         documents = {"1.json": body(name="B_b"), "2.json": body("2", name="b.B"), "3.json": body(name="a")}
         packages, _ = self.made(documents)
-        self.assertEqual([(it["name"], len(it["releases"])) for it in packages], [("a", 1), ("B_b", 2)])
+        self.assertEqual([(package["name"], len(package["releases"])) for package in packages], [("a", 1), ("B_b", 2)])
 
     def test_puts_releases_of_their_own_documents_in_the_order_of_paths(self):
         versions = list("123456789")

@@ -57,18 +57,18 @@ class Page(unittest.TestCase):
 
     def test_each_command_prints_what_is_shown(self):
         pages = [TOP / "docs" / name for name in ("SNAPSHOTS.md", "INDEXES.md", "LIMITS.md")]
-        found = [block for page in pages for block in typed_blocks(page.read_text(encoding="utf-8"))]
-        self.assertGreater(len(found), 5)
-        for block in found:
+        blocks = [block for page in pages for block in typed_blocks(page.read_text(encoding="utf-8"))]
+        self.assertGreater(len(blocks), 5)
+        for block in blocks:
             with self.subTest(block=block[0][0]):
                 printed = [FIGURES.sub("..", text).splitlines() for text in self.run_block(block)]
                 self.assertEqual(printed, [[FIGURES.sub("..", line) for line in shown] for _, shown in block])
 
     def test_the_limits_are_those_of_the_tool(self):
         text = (TOP / "docs" / "LIMITS.md").read_text(encoding="utf-8")
-        found = re.findall(r"(?m)^\| `([a-z]+)` \| ([0-9,]+) \| (.*) \|$", text)
-        wanted = [(it.name, f"{it.default:,}", it.metadata["meaning"]) for it in dataclasses.fields(Limits)]
-        self.assertEqual(found, wanted)
+        rows = re.findall(r"(?m)^\| `([a-z]+)` \| ([0-9,]+) \| (.*) \|$", text)
+        wanted = [(limit.name, f"{limit.default:,}", limit.metadata["meaning"]) for limit in dataclasses.fields(Limits)]
+        self.assertEqual(rows, wanted)
 
 
 if __name__ == "__main__":

@@ -56,9 +56,9 @@ class Files(unittest.TestCase):
 
     def check(self, wanted, *, header=None, locks=None, requirements=None):
         """What these files stand for: without others those that are altered, in each place where they differ from the journal's."""
-        found = {file_name(name): lock for name, lock in (self.locks if locks is None else locks).items()}
+        lock_files = {file_name(name): lock for name, lock in (self.locks if locks is None else locks).items()}
         given = self.requirements if requirements is None else requirements
-        files = {"requirements.txt": given, **found, "reqlock.journal": self.whole(header)}
+        files = {"requirements.txt": given, **lock_files, "reqlock.journal": self.whole(header)}
         self.assertEqual(opens_in(files), wanted)
         if PROGRAM.exists():
             self.assertEqual(checked(files), told(files, *wanted))
@@ -108,9 +108,9 @@ class Files(unittest.TestCase):
         self.check((DISAGREE, "pylock.linux.toml"))
 
     def check_steps(self, answer, *entries):
-        for found in entries:
-            with self.subTest(entries=found):
-                self.steps = [step([D_LINE], found)]
+        for changes in entries:
+            with self.subTest(entries=changes):
+                self.steps = [step([D_LINE], changes)]
                 self.check(answer)
 
     def test_of_a_step(self):
@@ -129,8 +129,8 @@ class Files(unittest.TestCase):
     def test_pairs_of_target_and_name_rise(self):
         header = read_header(compact(self.header()))
         linux = ["linux", "e", None, entry("e", "1")]
-        found = read_step(compact(step([], [linux, D_ENTRY])), header)
-        self.assertEqual([one[:2] for one in found.entries], [("linux", "e"), ("win", "d")])
+        parsed = read_step(compact(step([], [linux, D_ENTRY])), header)
+        self.assertEqual([one[:2] for one in parsed.entries], [("linux", "e"), ("win", "d")])
         for entries in [D_ENTRY, linux], [linux, linux], [linux, ["linux", "a", None, entry("a", "1")]]:
             self.assertRaises(Fault, read_step, compact(step([], entries)), header)
 
@@ -155,7 +155,7 @@ class Laws(unittest.TestCase):
     ONE = {"a": entry("a", "1")}
 
     def state(self, *entries, lines=("a\n",)):
-        targets = {name: Target(environment, it) for (name, environment), it in zip(ENVIRONMENTS.items(), entries)}
+        targets = {name: Target(environment, locked) for (name, environment), locked in zip(ENVIRONMENTS.items(), entries)}
         return State(list(lines), ZEROS, targets)
 
     def test_of_a_state(self):
@@ -170,12 +170,12 @@ class Laws(unittest.TestCase):
         two = {**self.ONE, "d": entry("d", "1")}
         state = self.state(self.ONE, two, lines=FILE.decode().splitlines(keepends=True))
         change = Change([(1, ['d; os_name=="nt"\n'], [])], [("win", "d", entry("d", "1"), None)], (ZEROS, ONES))
-        found = after(state, change)
-        self.assertEqual((found.lines, found.digest), (["a\n"], ONES))
-        self.assertEqual([found.entries(name) for name in ENVIRONMENTS], [self.ONE, self.ONE])
-        self.assertTrue(is_state(found) and is_minimal(inverse(change)))
+        changed = after(state, change)
+        self.assertEqual((changed.lines, changed.digest), (["a\n"], ONES))
+        self.assertEqual([changed.entries(name) for name in ENVIRONMENTS], [self.ONE, self.ONE])
+        self.assertTrue(is_state(changed) and is_minimal(inverse(change)))
         self.assertEqual(inverse(change).entries, [("win", "d", None, entry("d", "1"))])
-        self.assertEqual(after(found, inverse(change)), state)
+        self.assertEqual(after(changed, inverse(change)), state)
 
     def test_a_change_of_another_target_leads_nowhere(self):
         for target, old in ("mac", None), ("", None), ("linux", entry("d", "1")), ("win", None):

@@ -23,12 +23,12 @@ class Targets(Program):
 
     def locks(self, *words):
         """The locks have these names, one word a target."""
-        self.assertEqual([" ".join(self.locked(name)) for name in sorted(self.environments)], [it.replace(",", "") for it in words])
+        self.assertEqual([" ".join(self.locked(name)) for name in sorted(self.environments)], [word.replace(",", "") for word in words])
 
     def versions(self, *words):
         """The locks have these entries, one word a target."""
-        found = [", ".join(f"{name} {version}" for name, version in self.locked(it).items()) for it in sorted(self.environments)]
-        self.assertEqual(found, list(words))
+        pins = [", ".join(f"{name} {version}" for name, version in self.locked(target).items()) for target in sorted(self.environments)]
+        self.assertEqual(pins, list(words))
 
     def opens(self, cursor, steps):
         self.assertEqual(sorted(self.files()), sorted(self.names()))

@@ -148,8 +148,18 @@ class Told(Terminal):
 
     def test_a_file_of_pins_that_is_not_there(self):
         self.begin_plugins()
-        shown = self.plainly("init", "--pins", "none")[2]
-        self.assertEqual(shown, "reqlock: pins: unreadable\nA file that --pins names isn't there, or can't be read.\n")
+        none, lines = self.outside / "none", self.outside / "pins.txt"
+        lines.write_text("flask==2\n", encoding="utf-8")
+        for words, path in (
+            (["--pins", none], none), (["--pins", lines, "--pins", none], none), (["--pins", f"a={lines}", "--pins", f"b={none}"], none),
+            (["--pins", self.outside], self.outside),
+        ):
+            with self.subTest(words=words):
+                cause = "this is no regular file" if path == self.outside else "No such file or directory (os error 2)"
+                told = "pins" if words[1] != f"a={lines}" else "pins b"
+                self.assertEqual(self.plainly("init", *words)[2], f"reqlock: {told}: unreadable\n{path}: {cause}\n")
+        shown = self.plainly("init", "--pins", lines, "--pins", "-", "--pins", "-")[2]
+        self.assertEqual(shown, "reqlock: pins: unreadable\nA file that --pins names can't be read.\n")
 
     def test_how_many_packages_are_locked(self):
         self.begin(b"aa\n", ("aa", "1", ["mid"]), ("mid", "1", []))
@@ -247,6 +257,19 @@ class Told(Terminal):
         self.assertIn("aa 2 is yanked: ", self.plainly("add", "aa==2")[2])
         self.assertIn("by the extra nope here; bb 1 is locked without it.\n", self.plainly("add", "bb[nope,x]")[2])
         self.assertNotIn("the extra x", self.plainly("undo")[2])
+
+    def test_a_command_is_what_is_told_as_one(self):
+        """It is bold and whole, and a path that begins with a space is none."""
+        self.begin_plugins()
+        command = f"reqlock --dir {self.folder} --index {self.outside / 'index.json'} outdated"
+        for columns in "40", "":
+            with self.subTest(columns=columns):
+                shown = self.at_terminal("upgrade", variables={"COLUMNS": columns})[2]
+                self.assertTrue(shown.endswith(f"\n    {BOLD}{command}{END}\n"), shown)
+        fault = "reqlock: pins: unreadable\n"
+        for columns, shown in ("40", " none: No such file or directory (os\nerror 2)\n"), ("", " none: No such file or directory (os error 2)\n"):
+            with self.subTest(columns=columns):
+                self.assertEqual(self.at_terminal("init", "--pins", " none", variables={"COLUMNS": columns})[2], f"{fault}{shown}")
 
     def test_lines_of_the_width(self):
         self.begin_plugins()
@@ -347,6 +370,63 @@ class Output(Terminal):
         self.assertEqual(self.output_at_terminal("log"), f"  0 init\n{BOLD}* 1 add aa{END}\n")
         self.assertNotIn("\x1b", self.output_at_terminal("diff", "--json"))
         self.assertEqual(self.output_at_terminal("diff", variables={"NO_COLOR": "1"}), CODE.sub("", wanted))
+
+    def test_a_package_that_is_named_as_a_head(self):
+        """What a row is says who makes the table, and not its name."""
+        self.begin(b"name<2\ntarget\n", ("name", "1", []), ("name", "2", []), ("target", "1", []))
+        self.assertEqual(self.call("init"), (0, "ok 0\n"))
+        rows = f"{BOLD}name{END}    1        1\n{BOLD}target{END}  1        2\n"
+        self.assertEqual(self.output_at_terminal("show"), f"name    version  line  needed by\n{rows}")
+        head, row = self.output_at_terminal("outdated").splitlines()
+        self.assertTrue(head.startswith("name  locked  "), head)
+        self.assertTrue(row.startswith(f"{BOLD}name{END}  1       "), row)
+
+    def test_sentences_are_broken_once(self):
+        """Where one ends and where a line stands by itself is as in a pipe, whatever the width."""
+        self.begin(b"", ("aa", "1", ["bb>=2"]), ("bb", "1", []), ("bb", "2.x", []))
+        self.assertEqual(self.call("init"), (0, "ok 0\n"))
+        words = "why", "--explain", "aa"
+        piped = self.told(*words)[1]
+        self.assertTrue(piped.endswith("\nbb 2.x: release 1: version bad-version\n"), piped)
+        self.assertEqual(self.output_at_terminal(*words, variables={"COLUMNS": "100"}), piped)
+        shown = self.output_at_terminal(*words, variables={"COLUMNS": "60"})
+        self.assertNotEqual(shown, piped)
+        self.assertEqual(shown.replace("\n   ", " "), piped)
+        self.assertTrue(self.plainly("add", "aa", variables={"COLUMNS": "60"})[2].startswith(shown))
+
+    def test_why_a_release_is_not_locked_in_lines_of_the_width(self):
+        self.begin_plugins()
+        words = "why", "--not", "mid==1"
+        shown = self.output_at_terminal(*words, variables={"COLUMNS": "40"})
+        self.assertLessEqual(max(map(len, shown.splitlines())), 40)
+        self.assertEqual(shown.split(), self.told(*words)[1].split())
+
+    def test_what_a_new_lock_would_move(self):
+        self.begin_plugins()
+        self.begin(b"mid\n", ("mid", "1", []))
+        words = "check", "--current"
+        self.assertTrue(self.output_at_terminal(*words).startswith(f"stale\n{BOLD}mid{END} {RED}2{END} -> {GREEN}1{END}\n"))
+        self.assertEqual(self.output_at_terminal(*words, "--json"), self.told(*words, "--json")[1])
+
+    def test_variables_whose_texts_have_spaces(self):
+        self.begin_plugins()
+        self.lock_for({"": LINUX | {"platform_version": "#2 SMP a -> b"}})
+        self.assertEqual(self.call("retarget"), (0, "ok 1\n"))
+        before = LINUX["platform_version"]
+        self.assertIn(" ", before)
+        moved = f"target: {BOLD}platform_version{END} {RED}{before}{END} -> {GREEN}#2 SMP a -> b{END}\n"
+        self.assertEqual(self.output_at_terminal("diff"), moved)
+        step = f"{BOLD}* 1 retarget: {CODE.sub('', moved)[:-1]}{END}\n"
+        self.assertEqual(self.output_at_terminal("log", "--long"), f"  0 init\n{step}      {moved}")
+
+    def test_entries_of_several_targets(self):
+        self.lock_for({"one": LINUX, "two": WINDOWS})
+        self.begin(b"", ("aa", "1", []))
+        self.assertEqual(self.call("init"), (0, "ok 0\n"))
+        self.assertEqual(self.call("add", "aa"), (0, "ok 1\n"))
+        entry = f"{GREEN}+ aa 1{END}\n"
+        self.assertEqual(self.output_at_terminal("log", "--long"), f"  0 init\n{BOLD}* 1 add aa{END}\n      one: {entry}      two: {entry}")
+        self.assertEqual(self.output_at_terminal("diff"), f"{GREEN}+ 1: aa{END}\ntarget one\n{entry}target two\n{entry}")
 
     def test_a_text_paints_nothing(self):
         """A control character of a file stays a text, also where the program writes its own."""

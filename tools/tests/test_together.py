@@ -106,19 +106,19 @@ class Stopped(Fifty):
 
     def healed(self, before, after):
         """What the files were when the call stopped; then the next call that saves makes them whole."""
-        found = {name: content for name, content in self.files().items() if name in self.names()}
-        self.assertEqual(sorted(found), sorted(self.names()))
+        contents = {name: content for name, content in self.files().items() if name in self.names()}
+        self.assertEqual(sorted(contents), sorted(self.names()))
         status, output = self.call("check")
-        if found in (before, after):
+        if contents in (before, after):
             self.assertEqual(status, 0, output)
         else:
             self.assertEqual(status, 4, output)
             self.assertTrue(output.endswith(": files-disagree\n"), output)
-            for name, content in found.items():
+            for name, content in contents.items():
                 self.assertIn(content, (before[name], after[name]))
         self.assertEqual(self.call("relock"), (0, "same\n"))
         self.assertIn(self.files(), (before, after))
-        return "before" if found == before else "after" if found == after else "between"
+        return "before" if contents == before else "after" if contents == after else "between"
 
     def test_a_call_that_is_killed_leaves_what_the_next_one_heals(self):
         chance = drawing(4)

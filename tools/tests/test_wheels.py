@@ -89,15 +89,15 @@ class Shell(unittest.TestCase):
         """The lines all end well, and the program gives these replies."""
         status, output = self.run_lines(text)
         self.assertEqual(status, 0, output)
-        found = [line for line in output.splitlines() if re.match("ok |same|refused ", line)]
-        self.assertEqual(found, list(replies), output)
+        answers = [line for line in output.splitlines() if re.match("ok |same|refused ", line)]
+        self.assertEqual(answers, list(replies), output)
 
     def check_installed(self, lock, site, wanted):
         """What is installed in a folder is what a lock says, and that is what is wanted."""
         table = tomllib.loads((self.folder / lock).read_text(encoding="utf-8"))
-        self.assertEqual({it["name"]: it["version"] for it in table["packages"]}, wanted)
-        found = [path.name.removesuffix(".dist-info") for path in (self.folder / site).glob("*.dist-info")]
-        self.assertEqual({name.lower(): version for name, version in (it.split("-") for it in found)}, wanted)
+        self.assertEqual({package["name"]: package["version"] for package in table["packages"]}, wanted)
+        stems = [path.name.removesuffix(".dist-info") for path in (self.folder / site).glob("*.dist-info")]
+        self.assertEqual({name.lower(): version for name, version in (stem.split("-") for stem in stems)}, wanted)
 
 
 class Wheels(Shell):
@@ -229,9 +229,9 @@ class TwoPlatforms(Shell):
         self.check_runs(f"{line}\n")
         data = (self.folder / line.split(">")[1]).read_bytes()
         for name, environment in ("linux", LINUX), ("windows", WINDOWS):
-            found = installed_by(data, Installing(environment, (f"py3-none-{self.PLATFORMS[name]}", "py3-none-any")))
-            self.assertEqual({it.package["name"]: it.package["version"] for it in found}, self.WANTED[name])
-            [kettle] = [it.source["name"] for it in found if it.package["name"] == "kettle"]
+            installed = installed_by(data, Installing(environment, (f"py3-none-{self.PLATFORMS[name]}", "py3-none-any")))
+            self.assertEqual({item.package["name"]: item.package["version"] for item in installed}, self.WANTED[name])
+            [kettle] = [item.source["name"] for item in installed if item.package["name"] == "kettle"]
             self.assertEqual(kettle, f"kettle-1.0-py3-none-{self.PLATFORMS[name]}.whl")
 
     def test_a_wheel_of_another_platform_is_refused_by_its_hash(self):

@@ -38,8 +38,8 @@ class Released(Program):
         before = self.files()
         for text, status, told in texts:
             with self.subTest(text=text):
-                found = self.call("why", "--not", text)
-                self.assertEqual((found[0], found[1].replace("\n   ", " ").replace(" A\nrequirement", " A requirement")), (status, told))
+                answer = self.call("why", "--not", text)
+                self.assertEqual((answer[0], answer[1].replace("\n   ", " ").replace(" A\nrequirement", " A requirement")), (status, told))
         self.assertEqual(self.files(), before)
 
 
@@ -189,8 +189,8 @@ class Drawn(DrawnFiles):
         asked = Problem([*lines, f"{name}=={version}\n"], problem.environment, self.index, {})
         return problem, first_given_way(problem, asked, name)
 
-    def check_stays(self, state, found, seen):
-        name, locked, version, advice = found.groups()
+    def check_stays(self, state, match, seen):
+        name, locked, version, advice = match.groups()
         seen.add("stays")
         self.assertIsNone(self.given_way(state, name, version)[1])
         self.assertEqual(key_of(locked), key_of(state.entries()[name]["version"]))
@@ -204,10 +204,10 @@ class Drawn(DrawnFiles):
         self.assertGreaterEqual(key_of(self.locked()[name]), key_of(version))
         self.put(before)
 
-    def check_way(self, state, found, seen):
+    def check_way(self, state, match, seen):
         seen.add("gives way")
-        problem, told = self.given_way(state, found["name"], found["version"])
-        self.assertEqual((found["other"], problem.place_of(found["other"], key_of(found["best"]))), told)
+        problem, told = self.given_way(state, match["name"], match["version"])
+        self.assertEqual((match["other"], problem.place_of(match["other"], key_of(match["best"]))), told)
 
 
 def key_of(version):

@@ -27,8 +27,8 @@ def packages(names, count, needs):
 def pins(count=12):
     """So many packages pin one another, and two lines split them."""
     names = numbered("pin", count)
-    found = packages(names, 10, lambda own, version: [f"{name}=={version}" for name in names if name != names[own]])
-    return found, [f"{names[0]}>=5", f"{names[-1]}<5"]
+    releases = packages(names, 10, lambda own, version: [f"{name}=={version}" for name in names if name != names[own]])
+    return releases, [f"{names[0]}>=5", f"{names[-1]}<5"]
 
 
 def ring():
@@ -40,20 +40,20 @@ def ring():
 def chain(count=40):
     """So many links, each of which needs at least its own version of the next, whose last one is bounded."""
     names = numbered("link", count)
-    found = packages(names, 10, lambda own, version: [f"{name}>={version}" for name in names[own + 1 : own + 2]])
-    return found, [f"{names[0]}>=5", f"{names[-1]}<5"]
+    releases = packages(names, 10, lambda own, version: [f"{name}>={version}" for name in names[own + 1 : own + 2]])
+    return releases, [f"{names[0]}>=5", f"{names[-1]}<5"]
 
 
 def plugins(count=40):
     """Plugins of so many releases go with the three releases of the core from their own on, and two of them are held apart."""
     names = numbered("plug", 6)
-    found = packages(names, count, lambda own, version: [f"core>={version},<{version + 3}"])
-    return found + packages(["core"], count, lambda own, version: []), [*names, f"{names[0]}<15", f"{names[5]}>=20"]
+    releases = packages(names, count, lambda own, version: [f"core>={version},<{version + 3}"])
+    return releases + packages(["core"], count, lambda own, version: []), [*names, f"{names[0]}<15", f"{names[5]}>=20"]
 
 
 def clouds(count=4):
     """Packages that pin one another stand on the older half of a base, and others on the newer: so many on each."""
-    found = packages(["base"], 40, lambda own, version: [])
+    releases = packages(["base"], 40, lambda own, version: [])
     for word, least in ("old", 0), ("new", 20):
         names = numbered(word, count)
 
@@ -61,17 +61,17 @@ def clouds(count=4):
             lower = [f"{name}>={version},<{version + 2}" for name in names[own + 1 : own + 2]]
             return lower or [f"base>={least + version // 2},<{least + version // 2 + 1}"]
 
-        found += packages(names, 40, needs)
-    return found, ["old00", "new00"]
+        releases += packages(names, 40, needs)
+    return releases, ["old00", "new00"]
 
 
 def neighbours(count=60):
     """So many releases over time pin those of their neighbours, of which lines leave the old ones of the one and the new ones of the
     other."""
-    found = packages(["client"], count, lambda own, version: [f"core>={version},<{version + 3}"])
-    found += packages(["command"], count, lambda own, version: [f"core=={version}"])
-    found += packages(["core"], count, lambda own, version: [f"transport>={version},<{version + 12}"])
-    return found + packages(["transport"], count, lambda own, version: []), [f"client>={count - 10}", "command", "transport<10"]
+    releases = packages(["client"], count, lambda own, version: [f"core>={version},<{version + 3}"])
+    releases += packages(["command"], count, lambda own, version: [f"core=={version}"])
+    releases += packages(["core"], count, lambda own, version: [f"transport>={version},<{version + 12}"])
+    return releases + packages(["transport"], count, lambda own, version: []), [f"client>={count - 10}", "command", "transport<10"]
 
 
 def pigeons(count=6):

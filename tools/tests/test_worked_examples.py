@@ -174,7 +174,7 @@ class Saved(Program):
         words = {"CURSOR": str(cursor), "STEPS": str(steps)}
         for word, name in ("LOCK", "pylock.toml"), ("REQUIREMENTS", "requirements.txt"):
             words[word] = hashlib.sha256((self.folder / name).read_bytes()).hexdigest()
-        return re.sub("|".join(words), lambda found: words[found[0]], self.HEADER)
+        return re.sub("|".join(words), lambda match: words[match[0]], self.HEADER)
 
     def test_a_journal_has_the_form_that_is_written_down(self):
         self.begin(WINDOWS.encode(), *A_B_C)

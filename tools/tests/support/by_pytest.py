@@ -54,7 +54,8 @@ def node_of(place: Path, name: str) -> str:
 
 def run(place: Path, names: list[str], outcomes: Outcomes, workers: int) -> None:
     """Runs the tests of a folder, or those of these names, in so many processes beside this one; 1 runs them in this one."""
-    words = ["-v", "--tb=short", "-p", "no:cacheprovider", "--continue-on-collection-errors"]
+    # (unittest's own assertions tell what differs; those of pytest would have each file written anew before it is read)
+    words = ["-v", "--tb=short", "-p", "no:cacheprovider", "--assert=plain", "--continue-on-collection-errors"]
     words += ["-n", str(workers), "--dist=loadgroup"] if workers > 1 else ["-n", "0"]
     places = [node_of(place, name) for name in names] or [str(place)]
     status = pytest.main([*words, *places], plugins=[Plugin(outcomes)])

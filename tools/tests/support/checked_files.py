@@ -2,12 +2,12 @@
 program, which ./check builds first."""
 
 import re
-import subprocess
 import tempfile
 from pathlib import Path
 
 from support.places import MEMORY, PROGRAM
 from support.rules.journals import REQUIREMENTS, tells_in
+from support.spawned import ended, text_of
 
 
 def told(files, answer, *others):
@@ -38,13 +38,9 @@ def checked(files):
         for file, data in files.items():
             (folder / file).write_bytes(data)
 
-        def call(subcommand):
-            return subprocess.run([PROGRAM, "--dir", folder, subcommand], capture_output=True, encoding="utf-8", check=False)
-
-        done = call("check")
-        log = call("log")
+        done, log = (ended([PROGRAM, "--dir", folder, subcommand]) for subcommand in ("check", "log"))
         if log.returncode != 0 and (log.returncode, log.stdout, log.stderr) != (done.returncode, done.stdout, done.stderr):
             raise AssertionError("`log` tells another fault than `check`")
         if {path.name: path.read_bytes() for path in folder.iterdir()} != files:
             raise AssertionError("`check` or `log` changed a file")
-    return done.returncode, done.stdout, done.stderr, heads_of(log.stdout)
+    return done.returncode, text_of(done.stdout), text_of(done.stderr), heads_of(text_of(log.stdout))

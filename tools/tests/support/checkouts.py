@@ -88,7 +88,7 @@ class Checkouts(Program):
 
     def check_refused(self, said, *words, status=1):
         before = self.everything()
-        found, output, errors = self.merge(*words)
-        self.assertEqual((found, self.everything()), (status, before), errors)
+        exit_status, output, errors = self.merge(*words)
+        self.assertEqual((exit_status, self.everything()), (status, before), errors)
         self.assertIn(said, errors)
         return output, errors

@@ -36,7 +36,7 @@ def part_of(part):
     return written(part.parts[0]) if part.name == "Word" else part.parts[0]
 
 
-def version_of(parts):
+def rules_version(parts):
     """A version in the form of rules/versions.py."""
     pre = value_of(parts.pre)
     return Version(
@@ -45,29 +45,29 @@ def version_of(parts):
     )
 
 
-def clause_of(clause):
-    return Clause(SIGNS[clause.operator.name], version_of(clause.version), clause.operator.name.endswith("Prefix"))
+def rules_clause(clause):
+    return Clause(SIGNS[clause.operator.name], rules_version(clause.version), clause.operator.name.endswith("Prefix"))
 
 
-def requirement_of(parts):
+def rules_requirement(parts):
     """A requirement; its marker is the definition's own tree, to be asked by `holds`."""
-    return Requirement(written(parts.name), [*map(written, parts.extras)], [*map(clause_of, parts.clauses)], value_of(parts.marker))
+    return Requirement(written(parts.name), [*map(written, parts.extras)], [*map(rules_clause, parts.clauses)], value_of(parts.marker))
 
 
-def file_of(file):
+def rules_file(file):
     return {"name": written(file.name), "sha256": written(file.sha256), "size": file.size, "url": written(file.url)}
 
 
-def release_of(release):
+def rules_release(release):
     python, sdist = value_of(release.requires_python), value_of(release.sdist)
     return Release(
-        version_of(release.version), python and written(python.text), [*map(requirement_of, release.dependencies)], release.yanked,
-        sdist and file_of(sdist), [*map(file_of, release.wheels)],
+        rules_version(release.version), python and written(python.text), [*map(rules_requirement, release.dependencies)], release.yanked,
+        sdist and rules_file(sdist), [*map(rules_file, release.wheels)],
     )
 
 
-def index_of(index):
-    return Index({written(it.name): [*map(release_of, it.releases)] for it in index.packages}, bytes(index.digest).hex())
+def rules_index(index):
+    return Index({written(package.name): [*map(rules_release, package.releases)] for package in index.packages}, bytes(index.digest).hex())
 
 
 def texts_of(environment):

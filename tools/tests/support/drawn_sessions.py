@@ -8,7 +8,7 @@ from support.drawn_files import DrawnFiles
 from support.made.sessions import Draw
 from support.rules.edits import KEEP, History, Refused, is_locked, problems_after, status_of
 from support.rules.journals import file_name, opens_in
-from support.rules.lock_tables import read_lock
+from support.rules.lock_tables import read_lock_table
 from support.rules.locks import best_solution, is_refutation, read_refutation
 from support.rules.requirements import marker_text, read_line
 
@@ -111,7 +111,7 @@ class DrawnSessions(DrawnFiles):
         self.assertEqual(files["requirements.txt"].decode(), "".join(state.lines))
         for name, target in state.targets.items():
             wanted = marker_text(target.environment), state.digest, target.entries
-            self.assertEqual(read_lock(files[file_name(name)]), wanted)
+            self.assertEqual(read_lock_table(files[file_name(name)]), wanted)
         self.assertEqual(opens_in(files), ("ok", history.cursor, len(history.states) - 1))
 
     def check_why(self, state, command):

@@ -41,7 +41,7 @@ def theirs(text):
 
 def markers_of(lock):
     """Each marker of a lock's table."""
-    return [*lock.get("environments", []), *(it["marker"] for it in lock["packages"] if "marker" in it)]
+    return [*lock.get("environments", []), *(package["marker"] for package in lock["packages"] if "marker" in package)]
 
 
 def reads_as_clause(text):
@@ -54,7 +54,7 @@ def reads_as_clause(text):
 def compares_no_version(text, environment):
     """Whether a marker holds a text that is no version against one that reads as a clause, where `packaging` says no, or raises."""
     for left, sign, right in COMPARED.findall(text):
-        texts = [it[1:-1] if it.startswith('"') else environment[it] for it in (left, right)]
+        texts = [side[1:-1] if side.startswith('"') else environment[side] for side in (left, right)]
         if read_version(texts[0]) is None and reads_as_clause(sign + texts[1]):
             return True
     return False
@@ -73,22 +73,22 @@ def check_markers(data, environment):
     if Marker is None or not is_read(environment):
         return
     for text in markers_of(tomllib.loads(data.decode())):
-        found, wanted = is_met_by_theirs(text, environment), holds_in(text, environment)
-        if found != wanted and (found or not compares_no_version(text, environment)):
+        theirs, wanted = is_met_by_theirs(text, environment), holds_in(text, environment)
+        if theirs != wanted and (theirs or not compares_no_version(text, environment)):
             raise AssertionError((text, environment))
 
 
 def check_dependencies(package, packages):
     """Of the entries that are installed one is each dependency of an entry: it has, key by key, what a table of that name tells."""
     tables = package.get("dependencies", [])
-    fitting = [it["name"] for it in packages if any(table.items() <= it.items() for table in tables)]
+    fitting = [other["name"] for other in packages if any(table.items() <= other.items() for table in tables)]
     if sorted(fitting) != sorted({table["name"] for table in tables}):
         raise AssertionError((package, packages))
 
 
 def check_references(lock):
     """Each dependency of an entry of a lock's table is one other entry of it. One of a name that has one entry alone is told by the name."""
-    names = Counter(it["name"] for it in lock["packages"])
+    names = Counter(entry["name"] for entry in lock["packages"])
     for package in lock["packages"]:
         for table, other in zip(package.get("dependencies", []), referred(package, lock["packages"])):
             if names[other["name"]] == 1 and table != {"name": other["name"]}:
@@ -97,16 +97,16 @@ def check_references(lock):
 
 def lone_entry(package):
     """An entry by itself, as a lock of one target has it: without a marker, and its dependencies by their names."""
-    found = {key: value for key, value in package.items() if key != "marker"}
-    if "dependencies" in found:
-        names = dict.fromkeys(table["name"] for table in found["dependencies"])
-        found["dependencies"] = [{"name": name} for name in names]
-    return entry_of_table(found)
+    lone = {key: value for key, value in package.items() if key != "marker"}
+    if "dependencies" in lone:
+        names = dict.fromkeys(table["name"] for table in lone["dependencies"])
+        lone["dependencies"] = [{"name": name} for name in names]
+    return entry_of_table(lone)
 
 
 def entries_of(installed):
     """The entries that are installed, by name."""
-    packages = [it.package for it in installed]
+    packages = [item.package for item in installed]
     for package in packages:
         check_dependencies(package, packages)
     return dict(map(lone_entry, packages))

@@ -38,8 +38,8 @@ def check_joint(data, environments, locks):
         having = [target for target, entries in locks.items() if entries.get(pair[0]) == pair[1]]
         want(having and ("marker" in package) == (len(having) < len(locks)), "marked where not all have it", package, having)
     for target, environment in environments.items():
-        found = entries_installed(data, environment)
-        want(found is not None and are_equal(found, locks[target]), target, found, data.decode())
+        installed = entries_installed(data, environment)
+        want(installed is not None and are_equal(installed, locks[target]), target, installed, data.decode())
 
 
 def targets_in(data, environments, environment):
@@ -54,10 +54,10 @@ def targets_in(data, environments, environment):
 def check_in(data, environments, locks, environment):
     """The targets whose markers hold in an environment. There a file installs the entries of each of them; where none does, it is for another
     environment."""
-    met, found = targets_in(data, environments, environment), entries_installed(data, environment)
-    want((found is None) == (not met), "an installer takes it where a marker holds", met, environment, data.decode())
+    met, installed = targets_in(data, environments, environment), entries_installed(data, environment)
+    want((installed is None) == (not met), "an installer takes it where a marker holds", met, environment, data.decode())
     for names in met:
         want(names, "a marker is that of a target", data.decode())
         for name in names:
-            want(are_equal(found, locks[name]), name, found, environment, data.decode())
+            want(are_equal(installed, locks[name]), name, installed, environment, data.decode())
     return sorted({name for names in met for name in names})

@@ -34,7 +34,7 @@ class Outcomes:
     def fails(self, name: str) -> None:
         """A test has failed. Where a class or a module can't be begun each of its tests has, and the last one where it can't be ended."""
         inside = self.inside(name)
-        waiting = [it for it in inside if it not in self.known()]
+        waiting = [test for test in inside if test not in self.known()]
         self.failed.update(dict.fromkeys(waiting or inside[-1:] or [name]))
 
     def skips(self, name: str, reason: str) -> None:
@@ -43,7 +43,7 @@ class Outcomes:
 
     def inside(self, name: str) -> list[str]:
         """The tests of a class or a module that are planned."""
-        return [it for it in self.planned if it.startswith(f"{name}.")]
+        return [test for test in self.planned if test.startswith(f"{name}.")]
 
     def known(self) -> set[str]:
         """The tests of which something is told."""

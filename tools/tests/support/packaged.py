@@ -52,14 +52,15 @@ def copy_tree(folder):
 
 def own_variables(folder, **more):
     """The variables of a user whose home is a folder, and for whom no index is there."""
-    kept = {name: it for name, it in os.environ.items() if not name.startswith(("PIP_", "PIPX_", "PYTHON", "XDG_", "GIT_", "PRE_COMMIT"))}
+    kept = {name: value for name, value in os.environ.items() if not name.startswith(("PIP_", "PIPX_", "PYTHON", "XDG_", "GIT_", "PRE_COMMIT"))}
     pip = {"PIP_NO_INDEX": "1", "PIP_CONFIG_FILE": os.devnull, "PIP_DISABLE_PIP_VERSION_CHECK": "1", "PIP_RETRIES": "0"}
     return {**kept, **pip, "HOME": str(folder), **more}
 
 
 def git(tree, *words):
     """What git prints in a tree, for an author whose commits have all one time."""
-    author = {f"GIT_{who}_{what}": it for who in ("AUTHOR", "COMMITTER") for what, it in (("NAME", "a"), ("EMAIL", "a@x"), ("DATE", f"{TIME} +0000"))}
+    parts = ("NAME", "a"), ("EMAIL", "a@x"), ("DATE", f"{TIME} +0000")
+    author = {f"GIT_{who}_{part}": value for who in ("AUTHOR", "COMMITTER") for part, value in parts}
     variables = own_variables(tree.parent / "home", GIT_CONFIG_GLOBAL=os.devnull, GIT_CONFIG_NOSYSTEM="1", **author)
     done = subprocess.run(["git", *words], cwd=tree, env=variables, stdout=subprocess.PIPE, stderr=subprocess.STDOUT, encoding="utf-8", check=False)
     assert done.returncode == 0, f"{words}: {done.stdout}"

@@ -14,7 +14,8 @@ from support.made.environments import LINUX
 from support.made.releases import index_of
 from support.places import PROGRAM, needs_program, new_folder
 from support.rules.journals import file_name
-from support.rules.lock_tables import read_lock
+from support.rules.lock_tables import read_lock_table
+from support.spawned import ended, text_of
 
 FILES = "requirements.txt", "pylock.toml", "reqlock.journal"
 NOBODY = 65534
@@ -54,13 +55,16 @@ class Program(unittest.TestCase):
 
     def options(self, folder=None):
         """The options of a call in the folder, or in another one."""
-        found = ["--dir", self.folder if folder is None else folder, "--index", self.outside / "index.json"]
+        words = ["--dir", self.folder if folder is None else folder, "--index", self.outside / "index.json"]
         for name in self.environments:
-            found += ["--env", f"{name}={self.environment_file(name)}" if name else self.environment_file(name)]
-        return found
+            words += ["--env", f"{name}={self.environment_file(name)}" if name else self.environment_file(name)]
+        return words
 
     def call(self, *words, text="", before=None, seconds=None):
         """The status of a call of the program, and all that it writes. It may take these seconds at most."""
+        if before is None and seconds is None and not self.user:
+            done = ended([self.program, *self.options(), *words], text.encode(), is_joined=True)
+            return done.returncode, text_of(done.stdout)
         done = subprocess.run(
             [self.program, *self.options(), *words], input=text, stdout=subprocess.PIPE, stderr=subprocess.STDOUT,
             encoding="utf-8", check=False, preexec_fn=before, timeout=seconds, **self.user,
@@ -74,7 +78,7 @@ class Program(unittest.TestCase):
     @staticmethod
     def answered(*words, text=""):
         """The same of a call with these words alone."""
-        done = subprocess.run([PROGRAM, *words], input=text.encode(), capture_output=True, check=False)
+        done = ended([PROGRAM, *words], text.encode())
         return done.returncode, done.stdout.decode(), done.stderr.decode()
 
     def unread(self, *words):
@@ -123,7 +127,7 @@ class Program(unittest.TestCase):
 
     def locked(self, target=""):
         """The versions that are locked for a target, by name."""
-        entries = read_lock((self.folder / file_name(target)).read_bytes())[2]
+        entries = read_lock_table((self.folder / file_name(target)).read_bytes())[2]
         return {name: entry["version"] for name, entry in entries.items()}
 
 

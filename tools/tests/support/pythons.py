@@ -15,9 +15,9 @@ def pythons():
     names = [sys.executable]
     for place in map(Path.expanduser, map(Path, PLACES)):
         names += sorted(map(str, [*place.glob("*/bin/python3"), *place.glob("python3.[0-9]"), *place.glob("python3.[0-9][0-9]")]))
-    found = {}
+    by_version = {}
     for name in dict.fromkeys(names):
         done = subprocess.run([name, "-c", ASKS], capture_output=True, encoding="utf-8", check=False)
         if done.returncode == 0 and "shims" not in name:
-            found.setdefault(tuple(map(int, done.stdout.split())), name)
-    return {version: found[version] for version in sorted(found) if version >= (3, 6)}
+            by_version.setdefault(tuple(map(int, done.stdout.split())), name)
+    return {version: by_version[version] for version in sorted(by_version) if version >= (3, 6)}

@@ -41,11 +41,11 @@ def session_of(block: list[tuple[str, list[str]]]) -> Session | None:
     place = FOLDER.fullmatch(first)
     calls = []
     for command, lines in others:
-        found = TYPED.fullmatch(command)
-        if found is None:
+        match = TYPED.fullmatch(command)
+        if match is None:
             return None
-        text = (found[1] or "").replace("\\n", "\n")
-        calls.append(Call(shlex.split(found[2])[1:], text, None, lines))
+        text = (match[1] or "").replace("\\n", "\n")
+        calls.append(Call(shlex.split(match[2])[1:], text, None, lines))
     return Session(place[1] or place[2], calls) if place else None
 
 

@@ -35,7 +35,7 @@ class Projects(unittest.TestCase):
         self.folder.mkdir()
         self.home = self.outside / "home"
         self.home.mkdir()
-        kept = {name: it for name, it in os.environ.items() if not name.startswith(FOREIGN)}
+        kept = {name: value for name, value in os.environ.items() if not name.startswith(FOREIGN)}
         self.variables = {
             **kept, "HOME": str(self.home), "XDG_CACHE_HOME": str(self.outside / "cache"), "NO_PROXY": "*", "no_proxy": "*",
             "NETRC": os.devnull, "LC_ALL": "C.UTF-8", "GIT_CONFIG_GLOBAL": os.devnull, "GIT_CONFIG_NOSYSTEM": "1",

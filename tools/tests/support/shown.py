@@ -13,16 +13,16 @@ def indented_blocks(text):
 
 def typed_blocks(text):
     """The indented blocks with commands: each a list of commands with the lines shown behind them."""
-    found = []
+    blocks = []
     for block in indented_blocks(text):
         if block.startswith("$ "):
-            found.append([])
+            blocks.append([])
             for line in block.splitlines():
                 if line.startswith("$ "):
-                    found[-1].append((line[2:], []))
+                    blocks[-1].append((line[2:], []))
                 else:
-                    found[-1][-1][1].append(line)
-    return found
+                    blocks[-1][-1][1].append(line)
+    return blocks
 
 
 def printed_by(block, folder, variables, named="", address=""):

@@ -68,7 +68,7 @@ class Simple(unittest.TestCase):
         self.assertEqual(status, 0, lines)
         self.assertRegex(lines[-1], r"^[0-9]+ packages?, [0-9]+ releases?, [0-9]+ requests?, [0-9.]+ [kM]B, [0-9.]+ s$")
         packages = json.loads(self.output.read_text(encoding="utf-8"))["packages"]
-        return {it["name"]: {release["version"]: release for release in it["releases"]} for it in packages}, lines[:-1]
+        return {package["name"]: {release["version"]: release for release in package["releases"]} for package in packages}, lines[:-1]
 
     def versions(self, index, *words):
         """The versions by package, and the lines of standard error."""

@@ -5,6 +5,7 @@ import os
 import re
 import subprocess
 import unittest
+from importlib.metadata import distributions
 from pathlib import Path
 from urllib.parse import urljoin
 
@@ -18,6 +19,7 @@ from support.wanted_libraries import want_libraries
 
 from reqlock_tools.environment import VARIABLES
 from reqlock_tools.rql.sync_installed import read_environment
+from reqlock_tools.versions import normal
 
 PYTHON = "/usr/bin/python3"
 CALL = """
@@ -43,7 +45,7 @@ except Refusal as fault:
 def variables(**more):
     """The variables of a person for whom nothing is configured."""
     strange = "PIP_", "PYTHON", "REQLOCK_", "VIRTUAL_ENV", "XDG_"
-    kept = {name: it for name, it in os.environ.items() if not name.startswith(strange) and "proxy" not in name.lower()}
+    kept = {name: value for name, value in os.environ.items() if not name.startswith(strange) and "proxy" not in name.lower()}
     return {**kept, "PIP_CONFIG_FILE": os.devnull, "PIP_RETRIES": "0", "NETRC": os.devnull, **more}
 
 
@@ -54,9 +56,12 @@ def template():
 
 def locked_entry(index, name, version, *files, dependencies=()):
     """The entry of a lock with these files of an index."""
-    told = [{"name": it.name, "sha256": it.sha256, "size": len(it.data), "url": urljoin(index.url, f"../files/{it.name}")} for it in files]
-    wheels = [it for it in told if it["name"].endswith(".whl")]
-    sdist = next((it for it in told if not it["name"].endswith(".whl")), None)
+    told = [
+        {"name": file.name, "sha256": file.sha256, "size": len(file.data), "url": urljoin(index.url, f"../files/{file.name}")}
+        for file in files
+    ]
+    wheels = [file for file in told if file["name"].endswith(".whl")]
+    sdist = next((file for file in told if not file["name"].endswith(".whl")), None)
     return {"dependencies": list(dependencies), "requires_python": None, "sdist": sdist, "version": version, "wheels": wheels}
 
 
@@ -87,14 +92,14 @@ class Synced(unittest.TestCase):
 
     def lock(self, versions, target="", environment=None, others=None):
         """Writes the lock of these versions by name, and the journal; `others` are more targets, each an environment and its lock."""
-        entries = {name: locked_entry(self.index, name, it, self.files[name, it]) for name, it in versions.items()}
+        entries = {name: locked_entry(self.index, name, version, self.files[name, version]) for name, version in versions.items()}
         self.write_locks({target: (environment or self.told, lock_text(environment or self.told, entries)), **(others or {})})
 
     def write_locks(self, targets):
         (self.project / "requirements.txt").write_bytes(b"b\n")
         for name, (_, text) in targets.items():
             (self.project / (f"pylock.{name}.toml" if name else "pylock.toml")).write_bytes(text)
-        environments, locks = ({name: it[place] for name, it in targets.items()} for place in (0, 1))
+        environments, locks = ({name: target[place] for name, target in targets.items()} for place in (0, 1))
         (self.project / "reqlock.journal").write_bytes(journal_of_targets(b"b\n", locks, environments, 0))
 
     def given(self, asked):
@@ -121,7 +126,7 @@ class Synced(unittest.TestCase):
             with self.start(more, python, **asked) as child:
                 output, errors = child.communicate(timeout=120)
             status = child.returncode
-        return status, output.splitlines(), [re.sub(r"^rql(\.py)?: ", "", it) for it in errors.splitlines()]
+        return status, output.splitlines(), [re.sub(r"^rql(\.py)?: ", "", line) for line in errors.splitlines()]
 
     def syncs(self, *lines, told=(), **asked):
         """A call prints these lines, tells these on standard error, and its status is 0."""
@@ -131,15 +136,15 @@ class Synced(unittest.TestCase):
     def refuses(self, pattern, status=2, **asked):
         """A call is refused with a text, and changes nothing."""
         before = self.installed()
-        found, output, errors = self.call(**asked)
-        self.assertEqual(found, status, errors)
+        exit_status, output, errors = self.call(**asked)
+        self.assertEqual(exit_status, status, errors)
         self.assertRegex("\n".join(errors), pattern)
         self.assertEqual(self.installed(), before)
 
     def installed(self, venv=None):
         """The versions by name of what an environment has beside pip."""
-        found = read_environment(venv or self.venv).installed
-        return {name: it.version for name, it in found.items() if name != "pip"}
+        installed = distributions(path=[str(site_of(venv or self.venv))])
+        return {normal(distribution.name): distribution.version for distribution in installed if normal(distribution.name) != "pip"}
 
     def pip(self, *words):
         """Has the environment's pip do something."""
@@ -152,11 +157,12 @@ class Synced(unittest.TestCase):
         """Has a distribution stand in the environment as if it was installed. `origin` is what PEP 610 tells."""
         place = site_of(self.venv) / f"{name}-{version}.dist-info"
         place.mkdir()
-        head = f"Metadata-Version: 2.1\nName: {name}\nVersion: {version}\n" + "".join(f"Requires-Dist: {it}\n" for it in requires)
+        needs = "".join(f"Requires-Dist: {requirement}\n" for requirement in requires)
+        head = f"Metadata-Version: 2.1\nName: {name}\nVersion: {version}\n{needs}"
         (place / "METADATA").write_text(head, encoding="utf-8")
         (place / "INSTALLER").write_text("pip\n", encoding="utf-8")
         members = ["METADATA", "INSTALLER", "RECORD"]
         if origin is not None:
             (place / "direct_url.json").write_text(json.dumps(origin), encoding="utf-8")
             members.append("direct_url.json")
-        (place / "RECORD").write_text("".join(f"{place.name}/{it},,\n" for it in members), encoding="utf-8")
+        (place / "RECORD").write_text("".join(f"{place.name}/{member},,\n" for member in members), encoding="utf-8")

@@ -5,6 +5,7 @@ import importlib
 import io
 import os
 import pkgutil
+import resource
 import signal
 import subprocess
 import sys
@@ -13,7 +14,7 @@ import traceback
 from collections.abc import Callable, Iterable, Mapping
 from functools import cache
 from pathlib import Path
-from typing import IO, NoReturn
+from typing import IO, NamedTuple, NoReturn
 
 from support.places import TOOLS
 
@@ -23,6 +24,8 @@ from reqlock_tools.libraries import library
 
 # A call that takes longer is ended by a signal.
 SECONDS = 600
+# How deep the calls of a new process go.
+DEEPEST = 1000
 # What some tools read late.
 LIBRARIES = (
     "packaging.markers", "packaging.requirements", "packaging.specifiers", "packaging.tags", "packaging.version", "platformdirs", "rich.table",
@@ -30,6 +33,13 @@ LIBRARIES = (
 )
 # (it is run by older Pythons too, by itself)
 ALONE = "reqlock_tools.environment", "reqlock_tools.fleet_dask"
+
+
+class Limits(NamedTuple):
+    """How long a call may take, and how much memory more than there is at its start."""
+
+    seconds: int = SECONDS
+    memory: int | None = None
 
 
 @cache
@@ -43,25 +53,29 @@ def read_all() -> None:
 
 
 def called(
-    module: str, words: Iterable[object], cwd: Path | None = None, env: Mapping[str, str] | None = None, text: str = "", name: str = ""
+    module: str, words: Iterable[object], cwd: Path | None = None, env: Mapping[str, str] | None = None, text: str = "", name: str = "",
+    limits: Limits = Limits(),
 ) -> "subprocess.CompletedProcess[str]":
     """What a call of the script tools/MODULE.py would end with: its status, and what it writes. `text` is its input, and `name` another one by
     which it is called."""
     tool = "hashes" if module == "hashed_requirements" else module
-    return copied([name or str(TOOLS / f"{module}.py"), *map(str, words)], lambda: getattr(commands, tool)(), cwd, env, text)
+    return copied([name or str(TOOLS / f"{module}.py"), *map(str, words)], lambda: getattr(commands, tool)(), cwd, env, text, limits)
 
 
 def copied(
-    command: list[str], work: Callable[[], int], cwd: Path | None = None, env: Mapping[str, str] | None = None, text: str = ""
+    command: list[str], work: Callable[[], int], cwd: Path | None = None, env: Mapping[str, str] | None = None, text: str = "",
+    limits: Limits = Limits(), terminal: int | None = None,
 ) -> "subprocess.CompletedProcess[str]":
-    """What comes of work that a copy of this process does, as if it was called by a command."""
+    """What comes of work that a copy of this process does, as if it was called by a command. Where a terminal is given, that is its standard
+    error."""
     read_all()
     with tempfile.TemporaryFile() as given, tempfile.TemporaryFile() as output, tempfile.TemporaryFile() as errors:
         given.write(text.encode(errors="surrogateescape"))
         given.seek(0)
         child = os.fork()
         if child == 0:
-            run(command, work, lambda: begin(cwd, env, (given.fileno(), output.fileno(), errors.fileno())))
+            streams = given.fileno(), output.fileno(), errors.fileno() if terminal is None else terminal
+            run(command, work, lambda: begin(cwd, env, streams, limits))
         _, status = os.waitpid(child, 0)
         return subprocess.CompletedProcess(command, os.waitstatus_to_exitcode(status), whole(output), whole(errors))
 
@@ -73,9 +87,13 @@ def whole(stream: IO[bytes]) -> str:
         return text.read()
 
 
-def begin(cwd: Path | None, env: Mapping[str, str] | None, streams: tuple[int, ...]) -> None:
-    """Gives this process, a copy, the folder, the variables and the streams of a new one."""
-    signal.alarm(SECONDS)
+def begin(cwd: Path | None, env: Mapping[str, str] | None, streams: tuple[int, ...], limits: Limits) -> None:
+    """Gives this process, a copy, the folder, the variables, the streams and the bounds of a new one."""
+    signal.alarm(limits.seconds)
+    if limits.memory is not None:
+        most = limits.memory + resource.getpagesize() * int(Path("/proc/self/statm").read_text(encoding="ascii").split()[0])
+        resource.setrlimit(resource.RLIMIT_AS, (most, most))
+    sys.setrecursionlimit(DEEPEST + sum(1 for _ in traceback.walk_stack(None)))
     signal.signal(signal.SIGINT, signal.default_int_handler)
     for number, stream in enumerate(streams):
         os.dup2(stream, number)

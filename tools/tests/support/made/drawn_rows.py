@@ -68,21 +68,21 @@ class Draw(Chance):
 # The short form of an index
 
 
-def release_of(text):
+def spelt_release(text):
     version, *needs = text.removeprefix("!").split("|")
     version, _, python = version.partition("@")
     file = {"name": "w.whl", "url": "https://files.example/w.whl", "size": 1000, "sha256": "0" * 64}
-    found = {"version": version, "yanked": text.startswith("!"), "requires_dist": needs, "files": [file]}
-    return {**found, "requires_python": python} if python else found
+    release = {"version": version, "yanked": text.startswith("!"), "requires_dist": needs, "files": [file]}
+    return {**release, "requires_python": python} if python else release
 
 
-def index_of(packages):
+def spelt_index(packages):
     """The index that a short form tells."""
-    found = []
+    listed = []
     for package in packages.split("/"):
         name, *releases = package.split(" ")
-        found.append({"name": name, "releases": list(map(release_of, releases))})
-    return read_index(json.dumps({"snapshot": 1, "packages": found}).encode())
+        listed.append({"name": name, "releases": list(map(spelt_release, releases))})
+    return read_index(json.dumps({"snapshot": 1, "packages": listed}).encode())
 
 
 # Answers
@@ -139,7 +139,7 @@ def problems():
         yield row_of("packages", packages), lambda: "whole"
         for _ in range(PROBLEMS_EACH):
             lines = [draw.requirement(NAMES) + "\n" for _ in range(2)]
-            yield row_of("solve", "".join(lines)), lambda lines=lines, packages=packages: solved(lines, index_of(packages))
+            yield row_of("solve", "".join(lines)), lambda lines=lines, packages=packages: solved(lines, spelt_index(packages))
 
 
 def begun_history(draw, index):
@@ -166,13 +166,13 @@ def played(seed):
     """The rows of one history and their answers."""
     draw = Draw(seed)
     packages = draw.packages(NAMES[:4])
-    text, history = begun_history(draw, index_of(packages))
+    text, history = begun_history(draw, spelt_index(packages))
     rows = [(row_of("packages", packages), "whole"), (row_of("begin", text), "ok 0:" + lock_of(history.state()))]
     for _ in range(ROWS_EACH):
         if draw.one((True, False)):
             packages = draw.packages(NAMES[:4])
             rows.append((row_of("packages", packages), "whole"))
-        rows.append(done(draw, history, index_of(packages)))
+        rows.append(done(draw, history, spelt_index(packages)))
     steps = len(history.states) - 1
     return [*rows, ("saved", f"{history.cursor} of {steps}, {steps + 1} lines")]
 

@@ -10,14 +10,14 @@ LATER = 3
 
 class Draw(sessions.Draw):
     def release(self, name, version):
-        found = super().release(name, version)
+        release = super().release(name, version)
         if self.happens(80):
             for key in "yanked", "requires_python":
-                found.pop(key, None)
+                release.pop(key, None)
             others = [other for other in self.names[-LATER:] if other > name]
             chance = 15 if name in self.names[-LATER:] else 60 if version in NEW else 0
-            found["requires_dist"] = [other + self.one(RANGES) for other in others if self.happens(chance)]
-        return found
+            release["requires_dist"] = [other + self.one(RANGES) for other in others if self.happens(chance)]
+        return release
 
     def releases(self, name, count):
         """More than one release of each name, mostly without pre-releases."""

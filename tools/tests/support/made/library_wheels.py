@@ -50,7 +50,7 @@ def wheel_of_library(folder, name):
     paths = [path for path in paths if path.is_file() and path.suffix in (".py", ".typed", ".json")]
     members = {str(path.relative_to(base)): path.read_bytes() for path in paths}
     inner = f"{name.replace('-', '_')}-{version}"
-    needs = "".join(f"Requires-Dist: {it}\n" for it in dependencies_of(name))
+    needs = "".join(f"Requires-Dist: {requirement}\n" for requirement in dependencies_of(name))
     members[f"{inner}.dist-info/METADATA"] = f"Metadata-Version: 2.1\nName: {name}\nVersion: {version}\n{needs}"
     members[f"{inner}.dist-info/WHEEL"] = "Wheel-Version: 1.0\nRoot-Is-Purelib: true\nTag: py3-none-any\n"
     record = f"{inner}.dist-info/RECORD"

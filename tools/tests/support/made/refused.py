@@ -18,8 +18,8 @@ def example(name):
     return packages
 
 
-def releases(*found):
-    return lambda: index_of(*found)["packages"]
+def releases(*rows):
+    return lambda: index_of(*rows)["packages"]
 
 
 def plain(name, *versions):
@@ -38,8 +38,8 @@ def chain():
 
 def plugins():
     """Three plugins of twenty releases, each of which goes with two releases of the core."""
-    found = [(name, f"{version}", [f"core>={version},<{version + 2}"]) for name in ("auth", "cache", "forms") for version in range(1, 21)]
-    return found + plain("core", *map(str, range(1, 22)))
+    rows = [(name, f"{version}", [f"core>={version},<{version + 2}"]) for name in ("auth", "cache", "forms") for version in range(1, 21)]
+    return rows + plain("core", *map(str, range(1, 22)))
 
 
 def planted_with(line, seed, count):
@@ -50,8 +50,8 @@ def planted_with(line, seed, count):
 def boto_of(count):
     """So many releases of boto3 and its neighbours, as `index_of` takes them, and lines that ask for the newest tenth of boto3 and for
     the oldest urllib3."""
-    found, lines = boto(count)
-    needs = [(it["name"], one["version"], one["requires_dist"]) for it in found for one in it["releases"]]
+    packages, lines = boto(count)
+    needs = [(package["name"], one["version"], one["requires_dist"]) for package in packages for one in package["releases"]]
     return needs, [f"boto3>={count * 9 // 10}" if line == "boto3" else line for line in lines]
 
 

@@ -22,7 +22,7 @@ def index_of(*releases):
     for name, version, needs, *more in releases:
         release = {"version": version, "requires_dist": needs, "files": [file_of(name, version)]}
         packages.setdefault(name, []).append(release | dict(*more))
-    return {"snapshot": 1, "packages": [{"name": name, "releases": found} for name, found in packages.items()]}
+    return {"snapshot": 1, "packages": [{"name": name, "releases": listed} for name, listed in packages.items()]}
 
 
 def index_in(*releases):

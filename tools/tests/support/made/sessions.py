@@ -46,23 +46,23 @@ class Draw(Chance):
     def requirement(self, markers, names=()):
         """A requirement text, on one of these names where there are any."""
         extras = self.one(("[e-1]", " [ E_1 ]", "[f,E.1]", "[]")) if self.happens(25) else ""
-        found = "" if self.happens(35) else self.one(SETS)
-        found = self.one((found, f" {found}", f" ({found})", f"({found} ) "))
-        return self.name(names) + extras + found + self.marker(markers)
+        clauses = "" if self.happens(35) else self.one(SETS)
+        clauses = self.one((clauses, f" {clauses}", f" ({clauses})", f"({clauses} ) "))
+        return self.name(names) + extras + clauses + self.marker(markers)
 
     def files(self, name, version):
         return [file_of(name, version, ending) for ending in self.one(ENDINGS)]
 
     def release(self, name, version):
-        found = {"version": version, "files": self.files(name, version)}
+        release = {"version": version, "files": self.files(name, version)}
         needs = [self.requirement(MARKERS[:2] + EXTRA_MARKERS * 2) for _ in range(self.one((0, 0, 1, 1, 1, 2)))]
         if needs or self.happens(50):
-            found["requires_dist"] = needs + (["- x"] if self.happens(2) else [])
+            release["requires_dist"] = needs + (["- x"] if self.happens(2) else [])
         if self.happens(50):
-            found["requires_python"] = self.one(PYTHONS)
+            release["requires_python"] = self.one(PYTHONS)
         if self.happens(12):
-            found["yanked"] = True
-        return found
+            release["yanked"] = True
+        return release
 
     def releases(self, name, count):
         return [self.release(name, version) for version in self.random.sample(VERSIONS, count)]
@@ -70,11 +70,11 @@ class Draw(Chance):
     def index(self):
         """An index. To those that were drawn before, other releases come; some packages are other ones."""
         for name in self.names:
-            found = self.packages.get(name, [])
-            if not found or self.happens(10):
+            releases = self.packages.get(name, [])
+            if not releases or self.happens(10):
                 self.packages[name] = self.releases(name, self.one((1, 2, 2, 3)))
-            elif len(found) < MOST_RELEASES and self.happens(50):
-                self.packages[name] = found + self.releases(name, 1)
+            elif len(releases) < MOST_RELEASES and self.happens(50):
+                self.packages[name] = releases + self.releases(name, 1)
         return {"snapshot": 1, "packages": [{"name": name, "releases": self.packages[name]} for name in self.names]}
 
     def line(self, names=()):

@@ -1,6 +1,6 @@
 """Lists of conflicts of sets of versions, each over an index and lines, and the problem that these make."""
 
-from support.made.drawn_rows import index_of
+from support.made.drawn_rows import spelt_index
 from support.made.environments import LINUX
 from support.rules.locks import Problem
 
@@ -33,4 +33,4 @@ LISTS = (
 
 
 def problem_of(packages, lines):
-    return Problem([line + "\n" for line in lines.split("\n")], LINUX, index_of(packages), {})
+    return Problem([line + "\n" for line in lines.split("\n")], LINUX, spelt_index(packages), {})

@@ -29,10 +29,10 @@ class Draw(Chance):
     def release(self, name, version):
         others = [other for other in NAMES if other != name] + [name] * self.happens(5)
         needs = [self.requirement(other) + self.one(OWN_MARKERS) for other in self.random.sample(others, self.one((0, 1, 2, 2, 3)))]
-        found = {"version": version, "requires_dist": needs, "files": [file_of(name, version)]}
-        found |= {"yanked": True} if self.happens(12) else {}
-        found |= {"requires_python": self.one(PYTHONS)} if self.happens(25) else {}
-        return found | ({"version": "one"} if self.happens(2) else {})
+        release = {"version": version, "requires_dist": needs, "files": [file_of(name, version)]}
+        release |= {"yanked": True} if self.happens(12) else {}
+        release |= {"requires_python": self.one(PYTHONS)} if self.happens(25) else {}
+        return release | ({"version": "one"} if self.happens(2) else {})
 
     def releases(self, name):
         return [self.release(name, version) for version in self.random.sample(VERSIONS, self.one((1, 1, 2, 3, 4, 5, 6, 7)))]

@@ -8,10 +8,10 @@ def first_given_way(problem, asked, name):
     locked version beside what is taken before it, with the place of the newest release that goes with that; None where each stays."""
     left, taken = list(solutions(asked)), {}
     while True:
-        other = min((it for it, _ in needed_nodes(problem, taken) if it not in taken), default=name)
+        other = min((needed for needed, _ in needed_nodes(problem, taken) if needed not in taken), default=name)
         if other == name:
             return None
-        kept = [it for it in left if it[other] == problem.kept.get(other)]
+        kept = [solution for solution in left if solution[other] == problem.kept.get(other)]
         if not kept:
-            return other, min(it[other] for it in left)
+            return other, min(solution[other] for solution in left)
         left, taken[other] = kept, problem.kept[other]

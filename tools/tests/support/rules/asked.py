@@ -8,7 +8,7 @@ from support.rules.requirements import holds, matches, order_key, read_line, rea
 def led_to(lines, index):
     """The requirements that lines can lead to, each with the name of the package that has it, or None where that is a line; and the releases
     whose versions match one of them."""
-    asked, releases, place = [(None, it) for it in map(read_line, lines) if it is not None], {}, 0
+    asked, releases, place = [(None, requirement) for requirement in map(read_line, lines) if requirement is not None], {}, 0
     while place < len(asked):
         wanted = asked[place][1]
         place += 1
@@ -16,7 +16,7 @@ def led_to(lines, index):
             key = wanted.name, order_key(release.version)
             if key not in releases and matches(wanted.clauses, release.version):
                 releases[key] = release
-                asked += [(wanted.name, it) for it in release.dependencies]
+                asked += [(wanted.name, dependency) for dependency in release.dependencies]
     return asked, list(releases.values())
 
 
@@ -25,12 +25,13 @@ def answers_in(lines, index, environment):
     runs there."""
     asked, releases = led_to(lines, index)
     extras, python = {}, read_version(environment["python_full_version"])
-    for _, it in asked:
-        extras.setdefault(it.name, set()).update(it.extras)
+    for _, requirement in asked:
+        extras.setdefault(requirement.name, set()).update(requirement.extras)
     held = [
-        holds(it.marker, environment, extra) for user, it in asked if it.marker is not None for extra in (None, *sorted(extras.get(user, ())))
+        holds(requirement.marker, environment, extra)
+        for user, requirement in asked if requirement.marker is not None for extra in (None, *sorted(extras.get(user, ())))
     ]
-    return held, [matches(read_set(it.python), python) for it in releases if it.python is not None]
+    return held, [matches(read_set(release.python), python) for release in releases if release.python is not None]
 
 
 def are_alike(lines, index, one, other):

@@ -117,7 +117,7 @@ def problems_after(state, command, index):
     lines = lines_after(state.lines, command)
     given_up = names_given_up(state, command) if command[0] == "upgrade" else []
     targets = state.targets.items()
-    return lines, {name: Problem(lines, it.environment, index, kept_after(it.entries, given_up), only_kept) for name, it in targets}
+    return lines, {name: Problem(lines, target.environment, index, kept_after(target.entries, given_up), only_kept) for name, target in targets}
 
 
 def locked(lines, problems, index):

@@ -25,7 +25,7 @@ def numbered(file):
 def lines_of(problem, named):
     """The active ones of lines with their names in short."""
     read = [(short, text.strip(), read_line(text)) for short, text in named]
-    active = [it for it in read if it[2] and (it[2].marker is None or holds(it[2].marker, problem.environment))]
+    active = [line for line in read if line[2] and (line[2].marker is None or holds(line[2].marker, problem.environment))]
     return [Line(short, sentences.plain(f"{short} ({text})"), requirement) for short, text, requirement in active]
 
 
@@ -46,17 +46,17 @@ class Reader(CauseReader):
             return line
         return self.term(side.who)
 
-    def outside(self, source, node, found):
+    def outside(self, source, node, asked):
         """The conflict of what asks with the releases that it doesn't ask for, where there are some."""
-        others = frozenset(keys_of(self.problem, node[0])) - found
+        others = frozenset(keys_of(self.problem, node[0])) - asked
         beside = [] if isinstance(source, Line) else [source]
         return [[Term(*node, others), *beside]] if others else []
 
     def is_missing(self, told, name):
         """Whether the index has no package of the name, or nothing of it that can be used."""
-        found = re.fullmatch(sentences.MISSING, told)
-        want(name in (found[1], found[2]), f"the name that is needed: {told}")
-        if found[2]:
+        match = re.fullmatch(sentences.MISSING, told)
+        want(name in (match[1], match[2]), f"the name that is needed: {told}")
+        if match[2]:
             return self.problem.releases.get(name) == []
         near = told.partition("; near names: ")[2]
         others = near.split(", ") if near else []
@@ -103,15 +103,15 @@ class Reader(CauseReader):
                 continue
             source = self.source(side)
             if place and re.fullmatch(sentences.RANGE, side.asked):
-                found = self.asked_range(source, (name, None), side.asked)
+                keys = self.asked_range(source, (name, None), side.asked)
             else:
-                (own, _), found = self.asked(source, side.asked)
+                (own, _), keys = self.asked(source, side.asked)
                 want(place == 0 or own == name, f"one name: {side}")
                 name = own
             sources.append(source)
-            left = found if left is None else left & found
+            left = keys if left is None else left & keys
             terms += [] if isinstance(source, Line) else [source]
-            earlier += self.outside(source, (name, None), found)
+            earlier += self.outside(source, (name, None), keys)
         want(not left, f"no release that is left: {left}")
         want(not step.lacks or len(step.sides) == 1, "one side")
         newest = step.sides[0].newest
@@ -128,7 +128,7 @@ class Reader(CauseReader):
         """The same of a sentence which may not say whether the node of an extra is meant."""
         kept = self.rested, self.possible, self.asking, self.cited
         for extra in (None, *self.extras_meant(step)):
-            self.rested, self.possible, self.asking, self.cited = (type(it)(it) for it in kept)
+            self.rested, self.possible, self.asking, self.cited = (type(record)(record) for record in kept)
             try:
                 return self.leave_none_at(step, extra)
             except Fault as fault:
@@ -150,14 +150,14 @@ class Reader(CauseReader):
             node, terms, need, wanted, earlier = node_of(step.node), beside, None, beside[0].keys, []
         else:
             need = self.source(step.sides[0])
-            node, found = self.asked(need, step.sides[0].asked)
+            node, asked_keys = self.asked(need, step.sides[0].asked)
             node = (node[0], extra or node[1])
             terms = beside if isinstance(need, Line) else [need, *beside]
-            all_told = found == set(keys_of(self.problem, node[0]))
+            all_told = asked_keys == set(keys_of(self.problem, node[0]))
             is_short = any(cause.releases is None for cause in step.causes)
             want(is_short or (step.node is None) == (not all_told) and step.node in (None, text_of(node)), f"which are left: {step.node}")
             want(step.held == self.held(node[0]), f"what the lock keeps: {step.held}")
-            wanted, earlier = self.problem.candidate_keys(node[0]) & found, self.outside(need, node, found)
+            wanted, earlier = self.problem.candidate_keys(node[0]) & asked_keys, self.outside(need, node, asked_keys)
             terms += self.others_than_needed(step, Term(*node, frozenset(wanted)))
             self.follows_alone(earlier)
             self.asking.append((node[0], [need]))
@@ -173,8 +173,8 @@ class Reader(CauseReader):
     def others_than_needed(self, step, term):
         """Where it is told what the releases of a term need, and no term that they don't need: all others of the name."""
         needed = [cause.told["asked"] for cause in step.causes if cause.kind == "needs" and cause.releases is None and not step.beside]
-        asked = [self.asked(term, it) for it in needed]
-        others = [Term(name, None, frozenset(keys_of(self.problem, name)) - found) for (name, _), found in asked]
+        asked = [self.asked(term, told) for told in needed]
+        others = [Term(name, None, frozenset(keys_of(self.problem, name)) - keys) for (name, _), keys in asked]
         want(all(other.keys for other in others), f"others than what is needed: {needed}")
         return others
 
@@ -192,15 +192,15 @@ class Reader(CauseReader):
 
     def links(self, before):
         """For each node the releases that need a node of which only the releases of a conflict are left, of several: by their nodes."""
-        found = {}
+        keys_by_node = {}
         nodes = {(name, None) for name in self.problem.releases}
         nodes |= {node for name in self.problem.releases for place in range(len(self.problem.releases[name]))
                   for need in self.problem.needs_at((name, None), place) for node in need.nodes}
         for node in nodes:
-            keys = frozenset(key for key in keys_of(self.problem, node[0]) if any(self.is_link(node, key, it) for it in before.items()))
+            keys = frozenset(key for key in keys_of(self.problem, node[0]) if any(self.is_link(node, key, left) for left in before.items()))
             if keys:
-                found[node] = keys
-        return found
+                keys_by_node[node] = keys
+        return keys_by_node
 
     def is_link(self, node, key, before):
         """Whether a release needs another node, and each candidate of that is one of these releases or isn't admitted."""
@@ -221,15 +221,15 @@ class Reader(CauseReader):
         want(chain.count == len(numbers) and len(starts) == 1 and len(before) == len(beside) + 1, f"a step before: {text}")
         (start,) = starts
         self.cited.add(len(self.conflicts))
-        found = {start[:2]: start.keys}
+        reached = {start[:2]: start.keys}
         for place in range(chain.count):
-            found = self.links(found)
+            reached = self.links(reached)
             if place == 0:
                 first = node_of(chain.first)
-                found = {first: found[first]} if first in found else {}
+                reached = {first: reached[first]} if first in reached else {}
         last = node_of(chain.last)
-        want(last in found, f"a chain of as many packages: {text}")
-        self.conflicts += [None] * (chain.count - 1) + [[Term(*last, found[last]), *beside]]
+        want(last in reached, f"a chain of as many packages: {text}")
+        self.conflicts += [None] * (chain.count - 1) + [[Term(*last, reached[last]), *beside]]
         self.cited |= set(numbers) - {numbers[-1]}
         self.names |= {node_of(chain.first)[0], last[0]}
 
@@ -242,24 +242,24 @@ class Reader(CauseReader):
         self.rests_on({one.short, other.short}, 0)
         allowed = self.matching(other.requirement)
         if front.term is None:
-            found = self.matching(one.requirement)
-            want(front.asked == one.requirement.name == other.requirement.name and found and allowed, f"two lines on {front.asked}")
+            keys = self.matching(one.requirement)
+            want(front.asked == one.requirement.name == other.requirement.name and keys and allowed, f"two lines on {front.asked}")
         else:
-            (name, found), last = self.needed_by(one, front.term, front.asked), other.requirement.name
+            (name, keys), last = self.needed_by(one, front.term, front.asked), other.requirement.name
             if front.beyond is not None:
-                (name, _), found = self.asked(Term(name, None, found), front.beyond)
+                (name, _), keys = self.asked(Term(name, None, keys), front.beyond)
             elif front.second is not None:
                 last, allowed = self.needed_by(other, *front.second)
             want(name == last, f"what {other.short} is about")
-        want(not found & allowed, "what doesn't go together")
+        want(not keys & allowed, "what doesn't go together")
 
     def needed_by(self, line, told, asked):
         """Of which name the releases that a line allows need which releases."""
         term = self.term(told)
         want(term.name == line.requirement.name and term.extra in (None, *line.requirement.extras), f"what {line.short} needs")
         want(term.keys == self.matching(line.requirement), f"the releases that {line.short} allows")
-        (name, _), found = self.asked(term, asked)
-        return name, found
+        (name, _), keys = self.asked(term, asked)
+        return name, keys
 
     def conclusion(self, text):
         """Whether the lines on which the sentences rest, and no others, are told with what they ask for."""
@@ -279,7 +279,7 @@ class Reader(CauseReader):
             want(not words.rest or words.take(", | and "), f"a next line: {words.rest}")
         told = [line for line in named if isinstance(line, Line)]
         want(told == [line for line in self.lines if line in told], "lines in their order")
-        self.rests_on({line.short for line in told}, sum(it for it in named if isinstance(it, int)))
+        self.rests_on({line.short for line in told}, sum(number for number in named if isinstance(number, int)))
         return told
 
     def rests_on(self, told, more):
@@ -290,10 +290,12 @@ class Reader(CauseReader):
 
     def left_out(self, lines, releases, told):
         """Whether those of some releases are told that are of a name in the sentences and could have mattered, each once."""
-        found = [re.fullmatch(r"([a-z0-9-]+)(?: .*)?: release ([0-9]+): [a-z0-9 -]+", line) for line in lines]
-        want(all(found), f"releases that were left out: {lines}")
-        named = [(it[1], int(it[2])) for it in found]
-        wanted = sorted(it for it, version in releases.items() if it[0] in self.names and could_matter(self, it[0], version, told))
+        matches = [re.fullmatch(r"([a-z0-9-]+)(?: .*)?: release ([0-9]+): [a-z0-9 -]+", line) for line in lines]
+        want(all(matches), f"releases that were left out: {lines}")
+        named = [(match[1], int(match[2])) for match in matches]
+        wanted = sorted(
+            (name, place) for (name, place), version in releases.items() if name in self.names and could_matter(self, name, version, told)
+        )
         want(named == wanted, f"the releases that were left out: {lines}, and not {wanted}")
 
 

@@ -78,9 +78,9 @@ def is_normal(name):
 
 def texts_at(table, key):
     """An array of texts, which has none where it is absent."""
-    found = table.get(key, [])
-    ask(isinstance(found, list) and all(isinstance(text, str) for text in found), key)
-    return found
+    texts = table.get(key, [])
+    ask(isinstance(texts, list) and all(isinstance(text, str) for text in texts), key)
+    return texts
 
 
 class LockMarkerReader(MarkerReader):
@@ -95,10 +95,10 @@ class LockMarkerReader(MarkerReader):
         return token
 
     def atom(self):
-        found = super().atom()
-        if found[0] == "or" or not set(SETS) & {found[0], found[2]}:
-            return found
-        left, operator, right = found
+        relation = super().atom()
+        if relation[0] == "or" or not set(SETS) & {relation[0], relation[2]}:
+            return relation
+        left, operator, right = relation
         want(left[0] in "'\"" and operator in ("in", "not in"), "a text in a set")
         return f"'{normal(left[1:-1])}'", operator, right
 
@@ -161,19 +161,19 @@ def check_version(lock):
 def check_environments(lock, variables):
     """"If `environments` is specified, check that at least one of the environment marker expressions is satisfied; an error MUST be raised
     if no expression is satisfied." """
-    found = [holds_in(text, variables) for text in texts_at(lock, "environments")]
-    ask(any(found) or "environments" not in lock, "environments", NotForThisEnvironment)
+    held = [holds_in(text, variables) for text in texts_at(lock, "environments")]
+    ask(any(held) or "environments" not in lock, "environments", NotForThisEnvironment)
 
 
 def slated(lock, variables):
     """"For each package listed in `[[packages]]`: if `packages.marker` is specified, check if it is satisfied; if it isn't, skip to
     the next package. .. Add the package to the set of packages to install." """
-    found = {}
+    by_name = {}
     for package in lock["packages"]:
         if is_asked(package, variables):
-            check_package(package, variables, found)
-            found[package["name"]] = package
-    return list(found.values())
+            check_package(package, variables, by_name)
+            by_name[package["name"]] = package
+    return list(by_name.values())
 
 
 def is_asked(package, variables):
@@ -203,11 +203,11 @@ def sources_of(package):
 # What depends on what, which is for those who audit a lock: installers "MUST NOT use this information when doing installation"
 
 
-def fits(told, found):
+def fits(told, actual):
     """Whether what is told of an entry is so of one, "key-by-key"."""
-    if isinstance(told, dict) and isinstance(found, dict):
-        return all(key in found and fits(it, found[key]) for key, it in told.items())
-    return told == found
+    if isinstance(told, dict) and isinstance(actual, dict):
+        return all(key in actual and fits(value, actual[key]) for key, value in told.items())
+    return told == actual
 
 
 def referred(package, packages):
@@ -216,10 +216,10 @@ def referred(package, packages):
     with no ambiguity (e.g. if there are two entries for the `spam` package, then you can include the version number like
     `{name = "spam", version = "1.0.0"}`, or by source like `{name = "spam", vcs = { url = "..."}`)". """
     tables = package.get("dependencies", [])
-    ask(isinstance(tables, list) and all(isinstance(it, dict) and is_normal(it.get("name")) for it in tables), "packages.dependencies")
-    found = [[other for other in packages if fits(table, other)] for table in tables]
-    ask(all(len(it) == 1 and it[0] is not package for it in found), "packages.dependencies")
-    return [it[0] for it in found]
+    ask(isinstance(tables, list) and all(isinstance(table, dict) and is_normal(table.get("name")) for table in tables), "packages.dependencies")
+    fitting = [[other for other in packages if fits(table, other)] for table in tables]
+    ask(all(len(entries) == 1 and entries[0] is not package for entries in fitting), "packages.dependencies")
+    return [entries[0] for entries in fitting]
 
 
 # Sources

@@ -10,7 +10,7 @@ import re
 from functools import lru_cache
 from typing import NamedTuple
 
-from support.rules.lock_tables import read_lock
+from support.rules.lock_tables import read_lock_table
 from support.rules.requirements import TEXTS, Fault, marker_text, read_environment, read_lines, want
 from support.rules.states import Change, State, Target, after, inverse, is_lock_for, is_minimal, is_state
 from support.rules.values import is_rising, want_digest, want_entry, want_keys, want_list, want_name, want_number, want_text
@@ -229,8 +229,8 @@ def walk(state, cursor, changes):
 def odd_lock(targets, locks):
     """The first name, by bytes, that isn't both a target's and a lock's, or whose lock has another digest than its target tells."""
     digests = {target.name: target.lock for target in targets}
-    found = {name: digest_of(lock) for name, lock in locks.items()}
-    return min((name for name in {*digests, *found} if digests.get(name) != found.get(name)), default=None)
+    lock_digests = {name: digest_of(lock) for name, lock in locks.items()}
+    return min((name for name in {*digests, *lock_digests} if digests.get(name) != lock_digests.get(name)), default=None)
 
 
 def first_unfit(lines, targets, digests):
@@ -242,7 +242,7 @@ def first_unfit(lines, targets, digests):
 
 def read_locks(locks, header):
     """What the lock of each target is read as, by name, and None; or None and the first fault of them."""
-    read = {target.name: read_or_none(read_lock, locks[target.name]) for target in header.targets}
+    read = {target.name: read_or_none(read_lock_table, locks[target.name]) for target in header.targets}
     unread = [name for name, lock in read.items() if lock is None]
     if unread:
         return None, ("files-disagree", file_name(unread[0]))

@@ -11,13 +11,13 @@ from support.rules.versions import order_key, read_version
 def left_out(data):
     """The releases of an index that don't count, by their names and places: the text of the version, or None where another release has
     that version."""
-    found = {}
+    versions = {}
     for package in json.loads(data)["packages"]:
         places = {place for place, _ in counted(package["releases"]).values()}
         for place, release in enumerate(package["releases"]):
             if place not in places:
-                found[read_name(package["name"]), place] = None if is_read(release) else release["version"]
-    return found
+                versions[read_name(package["name"]), place] = None if is_read(release) else release["version"]
+    return versions
 
 
 def is_read(release):
@@ -46,5 +46,5 @@ def could_matter(reader, name, version, told):
 def may_take(reader, source, name, version):
     if isinstance(source, Line):
         return source.requirement.name == name and matches(source.requirement.clauses, version)
-    wanted = [it for key in source.keys for it in reader.requirements_at(source[:2], key, name)]
-    return any(matches(it.clauses, version) for it in wanted)
+    wanted = [requirement for key in source.keys for requirement in reader.requirements_at(source[:2], key, name)]
+    return any(matches(requirement.clauses, version) for requirement in wanted)

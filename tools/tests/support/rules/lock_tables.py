@@ -57,7 +57,7 @@ def in_toml_1_0(text):
     return "".join(parts)
 
 
-def read_lock(data):
+def read_lock_table(data):
     """The text of a lock's environment, its digest of the index, and its entries by name."""
     environment, digest, entries = parsed(data)
     return environment, digest, dict(entries)

@@ -89,10 +89,10 @@ def counted(releases):
     kept = {}
     for place, release in enumerate(releases):
         try:
-            found = read_release(release)
+            parsed = read_release(release)
         except Fault:
             continue
-        kept.setdefault(order_key(found.version), (place, found))
+        kept.setdefault(order_key(parsed.version), (place, parsed))
     return kept
 
 
@@ -173,8 +173,8 @@ class Problem:
         release that isn't yanked has matching clauses and a Python that fits."""
         if any(map(names_pre_release, self.asking(requirement))):
             return True
-        finals = [it for it in self.releases[requirement.name] if not is_pre(it.version) and not it.is_yanked]
-        return not any(self.fits(requirement, it) for it in finals)
+        finals = [release for release in self.releases[requirement.name] if not is_pre(release.version) and not release.is_yanked]
+        return not any(self.fits(requirement, final) for final in finals)
 
     def admits(self, requirement, release):
         """The clauses match and the Python fits, and a yanked release and a pre-release are taken."""
@@ -185,8 +185,8 @@ class Problem:
     def counting(self, node, place):
         """The dependencies of a release that count at a node: those whose marker holds with the node's extra."""
         name, extra = node
-        found = self.releases[name][place].dependencies
-        return [it for it in found if it.marker is None or holds(it.marker, self.environment, extra)]
+        dependencies = self.releases[name][place].dependencies
+        return [dependency for dependency in dependencies if dependency.marker is None or holds(dependency.marker, self.environment, extra)]
 
     def need_of(self, requirement):
         releases = self.releases.get(requirement.name, [])
@@ -208,13 +208,13 @@ class Problem:
 
 def needed_nodes(problem, chosen):
     """The nodes that chains of dependencies lead to from the active lines. A name that has no release leads nowhere."""
-    found, rest = set(), [node for need in problem.active for node in need.nodes]
+    nodes, rest = set(), [node for need in problem.active for node in need.nodes]
     while rest:
         node = rest.pop()
-        if node not in found:
-            found.add(node)
+        if node not in nodes:
+            nodes.add(node)
             rest += [other for need in problem.needs_at(node, chosen.get(node[0])) for other in need.nodes]
-    return found
+    return nodes
 
 
 def is_met(need, chosen):
@@ -246,12 +246,12 @@ def solutions(problem, chosen=None):
 def turns(problem, solution):
     """The turns of a solution's versions: names are taken as they are needed, the least one first, and the turn of a version is
     its place among the candidates of its name."""
-    taken, found = {}, []
+    taken, places = {}, []
     while taken.keys() != solution.keys():
         name = min(name for name, _ in needed_nodes(problem, taken) if name not in taken)
         taken[name] = solution[name]
-        found.append(problem.candidates(name).index(solution[name]))
-    return found
+        places.append(problem.candidates(name).index(solution[name]))
+    return places
 
 
 def best_solution(problem):
@@ -279,12 +279,12 @@ def entries_of(problem, solution):
 
 
 def read_choice(text):
-    found = re.fullmatch(rf"({NAME})(?:\[({NAME})\])?==(.*)", text)
-    want(found, "a choice")
-    version = read_version(found[3])
-    want(version is not None and canonical(version) == found[3], "a canonical version")
-    want(all(name is None or read_name(name) == name for name in found.groups()[:2]), "normal names")
-    return Choice(found[1], found[2], order_key(version))
+    match = re.fullmatch(rf"({NAME})(?:\[({NAME})\])?==(.*)", text)
+    want(match, "a choice")
+    version = read_version(match[3])
+    want(version is not None and canonical(version) == match[3], "a canonical version")
+    want(all(name is None or read_name(name) == name for name in match.groups()[:2]), "normal names")
+    return Choice(match[1], match[2], order_key(version))
 
 
 def read_conflict(line):

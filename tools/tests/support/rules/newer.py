@@ -9,7 +9,7 @@ from support.rules.versions import canonical
 def requirement_text(requirement):
     """A requirement in normal form, without its marker."""
     extras = f"[{','.join(requirement.extras)}]" if requirement.extras else ""
-    clauses = [f"{it.operator}{canonical(it.version)}{'.*' * it.is_prefix}" for it in requirement.clauses]
+    clauses = [f"{clause.operator}{canonical(clause.version)}{'.*' * clause.is_prefix}" for clause in requirement.clauses]
     return requirement.name + extras + ",".join(clauses)
 
 
@@ -29,19 +29,20 @@ def place_of(problem, name, entry):
 def needs_of(problem, name, entries):
     """What an entry needs: the requirements of its release's dependencies that count at one of its needed nodes, or None where the
     index doesn't have its release. What is asked of its own name isn't among them."""
-    chosen = {it: place_of(problem, it, entry) for it, entry in entries.items()}
+    chosen = {other: place_of(problem, other, entry) for other, entry in entries.items()}
     if chosen[name] is None:
         return None
-    extras = [None, *(extra for found, extra in needed_nodes(problem, chosen) if found == name and extra is not None)]
+    extras = [None, *(extra for node_name, extra in needed_nodes(problem, chosen) if node_name == name and extra is not None)]
     return [
-        it for it in problem.releases[name][chosen[name]].dependencies
-        if it.name != name and (it.marker is None or any(holds(it.marker, problem.environment, extra) for extra in extras))
+        dependency for dependency in problem.releases[name][chosen[name]].dependencies
+        if dependency.name != name
+        and (dependency.marker is None or any(holds(dependency.marker, problem.environment, extra) for extra in extras))
     ]
 
 
 def askers(problem, lines, entries, name):
     """Who asks for an entry, in order, each as an object with the requirement, which is None where it isn't known."""
-    found = [
+    asking = [
         ({"line": number, "text": lines[number - 1].strip(), "requirement": requirement_text(requirement)}, requirement)
         for number, requirement in asking_lines(lines, name, problem.environment)
     ]
@@ -49,26 +50,26 @@ def askers(problem, lines, entries, name):
         who = {"name": other, "version": entry["version"]}
         needs = needs_of(problem, other, entries)
         if needs is None and name in entry["dependencies"]:
-            found.append((who | {"requirement": None}, None))
-        found += [(who | {"requirement": requirement_text(it)}, it) for it in needs or [] if it.name == name]
-    return found
+            asking.append((who | {"requirement": None}, None))
+        asking += [(who | {"requirement": requirement_text(need)}, need) for need in needs or [] if need.name == name]
+    return asking
 
 
 def newer(problem, lines, entries, name):
     """What `outdated` tells of an entry, or None where it has no newer release."""
     releases = problem.releases.get(name, [])
     asking = askers(problem, lines, entries, name)
-    known = [(who, it) for who, it in asking if it is not None]
-    counting = [Requirement(name, [], [], None), *(it for _, it in known)]
-    count = [release for release in releases if any(problem.admits(it, release) for it in counting)]
+    known = [(who, requirement) for who, requirement in asking if requirement is not None]
+    counting = [Requirement(name, [], [], None), *(requirement for _, requirement in known)]
+    count = [release for release in releases if any(problem.admits(requirement, release) for requirement in counting)]
     locked = read_version(entries[name]["version"])
     if not count or order_key(count[0].version) <= order_key(locked):
         return None
-    admitted = [release for release in count if all(problem.admits(it, release) for _, it in known)]
+    admitted = [release for release in count if all(problem.admits(requirement, release) for _, requirement in known)]
     return {
         "name": name, "locked": entries[name]["version"], "newest": canonical(count[0].version),
         "admitted": canonical(admitted[0].version) if admitted else None,
-        "held_by": [who for who, it in known if not problem.admits(it, count[0])],
+        "held_by": [who for who, requirement in known if not problem.admits(requirement, count[0])],
     }
 
 
@@ -77,16 +78,17 @@ def outdated(state, problems):
     targets = []
     for name, target in state.targets.items():
         problem, entries = problems[name], target.entries
-        found = [newer(problem, state.lines, entries, it) for it in sorted(entries)]
+        rows = [newer(problem, state.lines, entries, package) for package in sorted(entries)]
         absent = [
-            {"name": it, "version": entry["version"]} for it, entry in sorted(entries.items()) if place_of(problem, it, entry) is None
+            {"name": package, "version": entry["version"]}
+            for package, entry in sorted(entries.items()) if place_of(problem, package, entry) is None
         ]
-        places = [(it, entry, place_of(problem, it, entry)) for it, entry in sorted(entries.items())]
+        places = [(package, entry, place_of(problem, package, entry)) for package, entry in sorted(entries.items())]
         yanked = [
-            {"name": it, "version": entry["version"]}
-            for it, entry, place in places if place is not None and problem.releases[it][place].is_yanked
+            {"name": package, "version": entry["version"]}
+            for package, entry, place in places if place is not None and problem.releases[package][place].is_yanked
         ]
-        targets.append({"target": name, "outdated": [it for it in found if it], "not_in_index": absent, "yanked": yanked})
+        targets.append({"target": name, "outdated": [row for row in rows if row], "not_in_index": absent, "yanked": yanked})
     return {"targets": targets}
 
 
@@ -96,25 +98,25 @@ def told_entries(state, problems, name=None):
     for target_name, target in state.targets.items():
         entries = target.entries
         told = []
-        for it in sorted(entries):
-            if name in (None, it):
-                needs = [{"name": need, "version": entries[need]["version"]} for need in entries[it]["dependencies"]]
+        for package in sorted(entries):
+            if name in (None, package):
+                needs = [{"name": need, "version": entries[need]["version"]} for need in entries[package]["dependencies"]]
                 if problems:
-                    asked = [who for who, _ in askers(problems[target_name], state.lines, entries, it)]
+                    asked = [who for who, _ in askers(problems[target_name], state.lines, entries, package)]
                 else:
-                    asked = askers_by_lock(state.lines, target, it)
-                told.append({"asked_by": asked, "entry": {"name": it} | entries[it], "needs": needs})
+                    asked = askers_by_lock(state.lines, target, package)
+                told.append({"asked_by": asked, "entry": {"name": package} | entries[package], "needs": needs})
         targets.append({"target": target_name, "entries": told})
     return {"targets": targets}
 
 
 def askers_by_lock(lines, target, name):
     """Who asks for an entry, as far as lines and lock tell it."""
-    found = [
+    asking = [
         {"line": number, "text": lines[number - 1].strip(), "requirement": requirement_text(requirement)}
         for number, requirement in asking_lines(lines, name, target.environment)
     ]
-    return found + [
+    return asking + [
         {"name": other, "version": entry["version"], "requirement": None}
         for other, entry in sorted(target.entries.items()) if name in entry["dependencies"]
     ]

@@ -2,7 +2,7 @@
 rules alone, so that it shares no mistake with the program."""
 
 from support.rules.edits import kept_after, locked
-from support.rules.lock_tables import read_lock
+from support.rules.lock_tables import read_lock_table
 from support.rules.locks import Problem
 from support.rules.requirements import cut_lines, holds, order_key, read_line, read_version, want
 
@@ -16,29 +16,32 @@ def pinned(requirement):
 
 def pins_of_lines(data, environment):
     """The names with versions that the lines of a file pin, whose markers hold in an environment."""
-    asked = [it for it in map(read_line, cut_lines(data.decode())) if it is not None]
-    found = [(it, pinned(it)) for it in asked]
-    return [(it.name, version) for it, version in found if it.marker is None or holds(it.marker, environment)]
+    asked = [requirement for requirement in map(read_line, cut_lines(data.decode())) if requirement is not None]
+    pins = [(requirement, pinned(requirement)) for requirement in asked]
+    return [
+        (requirement.name, version)
+        for requirement, version in pins if requirement.marker is None or holds(requirement.marker, environment)
+    ]
 
 
 def pins_of_lock(data):
-    return [(name, read_version(entry["version"])) for name, entry in read_lock(data)[2].items()]
+    return [(name, read_version(entry["version"])) for name, entry in read_lock_table(data)[2].items()]
 
 
 def newer_of(own, others, index):
     """The own versions and the others: of each name the newest one that the index has, or else the newest, and of equal ones the own."""
-    found = {}
+    newest = {}
     for name in [*own, *(name for name, _ in others)]:
         versions = [version for other, version in [*own.items(), *others] if other == name]
         keys = {order_key(release.version) for release in index.releases.get(name, [])}
-        found[name] = max([it for it in versions if order_key(it) in keys] or versions, key=order_key)
-    return found
+        newest[name] = max([version for version in versions if order_key(version) in keys] or versions, key=order_key)
+    return newest
 
 
 def pins_for(files, target, environment):
     """What files pin for a target: those with its name, or where there are none those without a name. A file is its target, its name
     and its bytes."""
-    own = [it for it in files if it[0] == target] or [it for it in files if it[0] == ""]
+    own = [file for file in files if file[0] == target] or [file for file in files if file[0] == ""]
     rows = [pins_of_lock(data) if name.endswith(".toml") else pins_of_lines(data, environment) for _, name, data in own]
     return [pin for row in rows for pin in row]
 
@@ -47,19 +50,22 @@ def replaced(state, lines, files, index, only_kept=False):
     """The state with other lines in the place of all, which keeps of the locked versions and those that are handed in the newest
     that the index has."""
     problems = {
-        name: Problem(lines, it.environment, index, newer_of(kept_after(it.entries, []), pins_for(files, name, it.environment), index), only_kept)
-        for name, it in state.targets.items()
+        name: Problem(
+            lines, target.environment, index,
+            newer_of(kept_after(target.entries, []), pins_for(files, name, target.environment), index), only_kept,
+        )
+        for name, target in state.targets.items()
     }
     return locked(lines, problems, index)
 
 
 def agreed(targets):
     """The versions that are locked for targets, of each name that no two of them have different versions of."""
-    found = {}
+    locked_versions = {}
     for target in targets.values():
         for name, entry in target.entries.items():
-            found.setdefault(name, []).append(read_version(entry["version"]))
-    return {name: versions[0] for name, versions in found.items() if len(set(map(order_key, versions))) == 1}
+            locked_versions.setdefault(name, []).append(read_version(entry["version"]))
+    return {name: versions[0] for name, versions in locked_versions.items() if len(set(map(order_key, versions))) == 1}
 
 
 def retargeted(state, environments, files, index, only_kept=False):
@@ -78,6 +84,7 @@ def retargeted(state, environments, files, index, only_kept=False):
 def begun_with(lines, environments, files, index):
     """The first state of a history that keeps what files pin."""
     problems = {
-        name: Problem(lines, it, index, newer_of({}, pins_for(files, name, it), index)) for name, it in sorted(environments.items())
+        name: Problem(lines, environment, index, newer_of({}, pins_for(files, name, environment), index))
+        for name, environment in sorted(environments.items())
     }
     return locked(lines, problems, index)

@@ -127,13 +127,13 @@ def tokens_of(text):
     for piece in re.findall(r"'[^']*(?:'|\Z)|\"[^\"]*(?:\"|\Z)|[()]", text):
         depth += {"(": 1, ")": -1}.get(piece, 0)
         want(depth <= MOST_OPEN, "fewer parentheses")
-    text, found, place = text.strip(BLANK), [], 0
+    text, tokens, place = text.strip(BLANK), [], 0
     while place < len(text):
         token = TOKEN.match(text, place)
         want(token, "a token")
-        found.append(token[1])
+        tokens.append(token[1])
         place = token.end()
-    return found
+    return tokens
 
 
 class MarkerReader:
@@ -231,14 +231,14 @@ def holds(tree, environment, extra=None):
 def read_environment(variables):
     """The eleven texts of a JSON object."""
     want(isinstance(variables, dict), "an object")
-    found = {name: variables.get(name) for name in TEXTS}
-    for text in found.values():
+    texts = {name: variables.get(name) for name in TEXTS}
+    for text in texts.values():
         want(isinstance(text, str), "a text")
         want(all(" " <= character <= "~" and character not in '"\\' for character in text), "printable ASCII")
-    found["python_full_version"] = found["python_full_version"].removesuffix("+")
+    texts["python_full_version"] = texts["python_full_version"].removesuffix("+")
     for name in "python_version", "python_full_version":
-        want(read_version(found[name]) is not None, "a version")
-    return found
+        want(read_version(texts[name]) is not None, "a version")
+    return texts
 
 
 def marker_text(environment):
@@ -297,4 +297,4 @@ def read_lines(data):
 
 def active_requirements(lines, environment):
     asked = [requirement for requirement in map(read_line, lines) if requirement is not None]
-    return [it for it in asked if it.marker is None or holds(it.marker, environment)]
+    return [requirement for requirement in asked if requirement.marker is None or holds(requirement.marker, environment)]

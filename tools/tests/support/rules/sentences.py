@@ -138,20 +138,20 @@ class Words:
         self.rest = text
 
     def take(self, pattern):
-        found = re.match(pattern, self.rest)
-        self.rest = self.rest[found.end() :] if found else self.rest
-        return found and found[0]
+        match = re.match(pattern, self.rest)
+        self.rest = self.rest[match.end() :] if match else self.rest
+        return match and match[0]
 
     def must(self, pattern):
-        found = self.take(pattern)
-        want(found is not None, f"{pattern} before {self.rest}")
-        return found
+        taken = self.take(pattern)
+        want(taken is not None, f"{pattern} before {self.rest}")
+        return taken
 
     def take_one(self, texts, behind):
         """One of some texts, with what stands behind it."""
-        found = next((it for it in texts if self.rest.startswith(it + behind)), None)
-        self.rest = self.rest if found is None else self.rest.removeprefix(found + behind)
-        return found
+        taken = next((text for text in texts if self.rest.startswith(text + behind)), None)
+        self.rest = self.rest if taken is None else self.rest.removeprefix(taken + behind)
+        return taken
 
     def end(self):
         want(not self.rest, f"an end before {self.rest}")
@@ -199,9 +199,9 @@ def take_others(words):
 
 def read_cause(text):
     for kind, pattern in CAUSES.items():
-        found = re.fullmatch(pattern, text)
-        if found:
-            told = found.groupdict()
+        match = re.fullmatch(pattern, text)
+        if match:
+            told = match.groupdict()
             return Cause(kind, told.pop("releases", None) or "every release", told)
     want(False, f"a cause: {text}")
 
@@ -306,10 +306,10 @@ def read_none_left(words, side):
 
 
 def read_chain(numbers, text):
-    found = re.fullmatch(CHAIN, text)
-    want(found, f"a chain: {text}")
-    beside = take_others(Words(found["beside"])) if found["beside"] else []
-    return Chain(numbers, int(found["count"]), found["first"], found["last"], beside)
+    match = re.fullmatch(CHAIN, text)
+    want(match, f"a chain: {text}")
+    beside = take_others(Words(match["beside"])) if match["beside"] else []
+    return Chain(numbers, int(match["count"]), match["first"], match["last"], beside)
 
 
 def read_front(text, lines):

@@ -24,9 +24,9 @@ class Term(NamedTuple):
 
 def read_term(text):
     """The term of a text such as `x[e]==1,2`; of no version, `x[e]==`."""
-    found = re.fullmatch(rf"({NAME})(?:\[({NAME})\])?==(.*)", text)
-    want(found, "a term")
-    return Term(found[1], found[2], frozenset(order_key(read_version(it)) for it in found[3].split(",") if it))
+    match = re.fullmatch(rf"({NAME})(?:\[({NAME})\])?==(.*)", text)
+    want(match, "a term")
+    return Term(match[1], match[2], frozenset(order_key(read_version(version)) for version in match[3].split(",") if version))
 
 
 def read_conflict(text):
@@ -58,12 +58,12 @@ def clash(problem, one, other):
 
 def is_bound(term, conflict):
     """Whether the conflict has a term on the same node, whose versions are among the term's."""
-    return any(it[:2] == term[:2] and it.keys <= term.keys for it in conflict)
+    return any(other[:2] == term[:2] and other.keys <= term.keys for other in conflict)
 
 
 def completes(conflict, node, key, earlier):
     """Whether the conflict with this version alone at the node has an earlier one in it."""
-    return any(all(is_bound(it, conflict) or it[:2] == node and key in it.keys for it in old) for old in earlier)
+    return any(all(is_bound(term, conflict) or term[:2] == node and key in term.keys for term in old) for old in earlier)
 
 
 def needed_nodes(problem, conflict):

@@ -49,13 +49,13 @@ def meets(requirement, entry, environment):
 
 def reached(names, entries):
     """The names that dependencies lead to from these."""
-    found, rest = set(), list(names)
+    seen, rest = set(), list(names)
     while rest:
         name = rest.pop()
-        if name not in found:
-            found.add(name)
+        if name not in seen:
+            seen.add(name)
             rest += entries[name]["dependencies"]
-    return found
+    return seen
 
 
 def is_lock_for(lines, target):
@@ -68,11 +68,11 @@ def is_lock_for(lines, target):
     entries = target.entries
     if cut_lines("".join(lines)) != lines or not is_rising(list(entries)):
         return False
-    if not all(it.name in entries and meets(it, entries[it.name], target.environment) for it in asked):
+    if not all(requirement.name in entries and meets(requirement, entries[requirement.name], target.environment) for requirement in asked):
         return False
     if not all(other in entries for entry in entries.values() for other in entry["dependencies"]):
         return False
-    return reached([it.name for it in asked], entries) == set(entries)
+    return reached([requirement.name for requirement in asked], entries) == set(entries)
 
 
 def is_state(state):
@@ -117,22 +117,22 @@ def inverse(change):
 
 def with_entries(targets, changes):
     """The targets with other entries; None where a target or an old entry isn't there."""
-    found = {name: dict(target.entries) for name, target in targets.items()}
+    entries_by_target = {name: dict(target.entries) for name, target in targets.items()}
     for target, name, old, new in changes:
-        if target not in found or found[target].pop(name, None) != old:
+        if target not in entries_by_target or entries_by_target[target].pop(name, None) != old:
             return None
-        found[target] |= {} if new is None else {name: new}
-    return {name: Target(targets[name].environment, dict(sorted(entries.items()))) for name, entries in found.items()}
+        entries_by_target[target] |= {} if new is None else {name: new}
+    return {name: Target(targets[name].environment, dict(sorted(entries.items()))) for name, entries in entries_by_target.items()}
 
 
 def with_environments(targets, changes):
     """The targets with other environments, among them those that come and those that go; None where an old environment isn't there."""
-    found = dict(targets)
+    changed = dict(targets)
     for name, old, new in changes:
-        if (found[name].environment if name in found else None) != old:
+        if (changed[name].environment if name in changed else None) != old:
             return None
-        found[name] = Target(old if new is None else new, found[name].entries if name in found else {})
-    return found
+        changed[name] = Target(old if new is None else new, changed[name].entries if name in changed else {})
+    return changed
 
 
 def without_gone(targets, changes):
@@ -145,9 +145,9 @@ def without_gone(targets, changes):
 
 def targets_after(targets, change):
     """The targets behind a change; None where an old part of them isn't there, or one goes that has entries."""
-    found = with_environments(targets, change.targets)
-    found = None if found is None else with_entries(found, change.entries)
-    return None if found is None else without_gone(found, change.targets)
+    changed = with_environments(targets, change.targets)
+    changed = None if changed is None else with_entries(changed, change.entries)
+    return None if changed is None else without_gone(changed, change.targets)
 
 
 def after(state, change):

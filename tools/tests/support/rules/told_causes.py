@@ -40,7 +40,7 @@ class CauseReader(ReleaseReader):
         if isinstance(source, Line):
             return source.requirement.name == name and self.is_reason(cause, source.requirement, release)
         wanted = (self.requirements_at(source[:2], own, name) for own in source.keys)
-        return all(any(self.is_reason(cause, it, release) for it in each) for each in wanted)
+        return all(any(self.is_reason(cause, requirement, release) for requirement in each) for each in wanted)
 
     def sources(self, cause, step, node, keys, need):
         """Who may be meant: who is named; or else what needs the node; or, of a reason that names nobody, also another term or line.
@@ -51,26 +51,26 @@ class CauseReader(ReleaseReader):
         alone = [(line, [[Term(*node, keys)]]) for line in self.lines]
         itself = [(Term(*node, frozenset([key])), [[Term(*node, frozenset([key]))]]) for key in keys]
         if who is not None:
-            named = [it for it in alone if who in (it[0].short, it[0].text)]
-            named += [it for it in beside if not named and it[0][:2] == node_of(who)]
+            named = [pair for pair in alone if who in (pair[0].short, pair[0].text)]
+            named += [pair for pair in beside if not named and pair[0][:2] == node_of(who)]
             return named, itself if not named and node_of(who) == node else []
-        own = [it for it in alone + beside if it[0] is need]
+        own = [pair for pair in alone + beside if pair[0] is need]
         if cause.kind in ("python", "yanked", "pre", "both"):
-            return own + [it for it in beside + alone if it[0] is not need], itself
+            return own + [pair for pair in beside + alone if pair[0] is not need], itself
         return own, []
 
     def is_wanted(self, told, source, name):
         """Whether a term asks for these releases of a name; none is told where there is none."""
-        found, _ = self.wanted(source, (name, None))
-        return not found if told is None else bool(self.asked_range(source, (name, None), told))
+        matched, _ = self.wanted(source, (name, None))
+        return not matched if told is None else bool(self.asked_range(source, (name, None), told))
 
     def refused(self, cause, step, node, keys, need):
         """The conflicts by which releases are excluded for a reason."""
-        found, itself = self.sources(cause, step, node, keys, need)
+        sources, itself = self.sources(cause, step, node, keys, need)
         if cause.kind == "refused":
-            found = [it for it in found if self.is_wanted(cause.told["wanted"], it[0], node[0])]
-            itself = itself if found == [] and self.is_wanted(cause.told["wanted"], Term(*node, keys), node[0]) else []
-        holding = [it for it in found if all(self.refuses(cause, it[0], node[0], key) for key in keys)]
+            sources = [pair for pair in sources if self.is_wanted(cause.told["wanted"], pair[0], node[0])]
+            itself = itself if sources == [] and self.is_wanted(cause.told["wanted"], Term(*node, keys), node[0]) else []
+        holding = [pair for pair in sources if all(self.refuses(cause, pair[0], node[0], key) for key in keys)]
         if not holding and itself and all(self.refuses(cause, own, node[0], key) for own, _ in itself for key in own.keys):
             return [conflict for _, conflicts in itself for conflict in conflicts]
         want(holding, f"what refuses {cause}")
@@ -101,9 +101,9 @@ class CauseReader(ReleaseReader):
 
     def clashing(self, conflicts):
         """Those of some conflicts in which two terms, or one of them twice, clash. There is one."""
-        found = [it for it in conflicts if clash(self.problem, it[0], it[-1])]
-        want(found, f"terms that clash: {conflicts}")
-        return found
+        clashes = [conflict for conflict in conflicts if clash(self.problem, conflict[0], conflict[-1])]
+        want(clashes, f"terms that clash: {conflicts}")
+        return clashes
 
     def excluded(self, cause, step, node, need, left):
         """The releases that a cause excludes, all of `left` where none are told, and the conflicts by which it does."""
@@ -119,4 +119,4 @@ class CauseReader(ReleaseReader):
         return keys, conflicts
 
     def follows_alone(self, conflicts):
-        want(all(case_of(self.problem, it, []) for it in conflicts), f"conflicts that follow by themselves: {conflicts}")
+        want(all(case_of(self.problem, conflict, []) for conflict in conflicts), f"conflicts that follow by themselves: {conflicts}")

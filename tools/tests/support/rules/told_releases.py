@@ -48,16 +48,16 @@ def runs_told(problem, name, told, word):
     releases, unless it has no end; then it has more than one."""
     keys = keys_of(problem, name)
     places = {canonical(release.version): keys.index(order_key(release.version)) for release in problem.releases.get(name, [])}
-    found = []
+    told_keys = []
     for piece in re.split(f",? {word} (?!newer)|, ", told):
         first, to, last = re.fullmatch("(.*?)(?:( to | or newer)(.*))?", piece).groups()
         want(first in places and (not last or last in places), f"releases of {name}: {piece}")
         stop = {None: places[first] + 1, " or newer": len(keys)}.get(to) or places[last] + 1
         run = keys[places[first] : stop]
         want(len(run) > {None: 0, " or newer": 1, " to ": 2}[to], f"a run of releases: {piece}")
-        found += run
-    want(found == sorted(set(found)), f"releases from the oldest on, each once: {told}")
-    return frozenset(found)
+        told_keys += run
+    want(told_keys == sorted(set(told_keys)), f"releases from the oldest on, each once: {told}")
+    return frozenset(told_keys)
 
 
 def releases_told(problem, name, told):
@@ -71,10 +71,10 @@ def releases_told(problem, name, told):
     return runs_told(problem, name, f"{begins[1]} or newer" if begins else told, "or" if begins else "and")
 
 
-def run_count(problem, name, found):
+def run_count(problem, name, chosen):
     """How many runs some releases are."""
     keys = keys_of(problem, name)
-    return sum(key in found and (place == 0 or keys[place - 1] not in found) for place, key in enumerate(keys))
+    return sum(key in chosen and (place == 0 or keys[place - 1] not in chosen) for place, key in enumerate(keys))
 
 
 def text_of(node):
@@ -107,7 +107,7 @@ class ReleaseReader:
 
     def requirements_at(self, node, key, name):
         """The dependencies on a name that count at a node with a release."""
-        return [it for it in self.problem.counting(node, self.problem.place_of(node[0], key)) if it.name == name]
+        return [dependency for dependency in self.problem.counting(node, self.problem.place_of(node[0], key)) if dependency.name == name]
 
     # What is asked for: the releases whose versions match
 
@@ -123,13 +123,13 @@ class ReleaseReader:
         if isinstance(source, Line):
             want(source.requirement.name == name, f"a line on {name}: {source.short}")
             return self.matching(source.requirement), set()
-        found, needed = set(), set()
+        matched, needed = set(), set()
         for key in source.keys:
-            each = [it for it in self.requirements_at(source[:2], key, name) if extra is None or extra in it.extras]
+            each = [requirement for requirement in self.requirements_at(source[:2], key, name) if extra is None or extra in requirement.extras]
             want(each, f"a release that needs {node}: {source}")
-            found |= frozenset.intersection(*map(self.matching, each))
-            needed |= {without_marker(it) for it in each}
-        return frozenset(found), needed
+            matched |= frozenset.intersection(*map(self.matching, each))
+            needed |= {without_marker(requirement) for requirement in each}
+        return frozenset(matched), needed
 
     def asked(self, source, told):
         """The node of which something is asked for, and the releases that match what is told. This is what the source asks for."""
@@ -138,40 +138,40 @@ class ReleaseReader:
         if re.fullmatch(sentences.RANGE, range_told):
             return node_of(name), self.asked_range(source, node_of(name), range_told)
         if told.endswith(sentences.ABSENT) or told.startswith("none of "):
-            found, needed = self.wanted(source, node_of(name))
-            want(not found and (isinstance(source, Line) or len(needed) > self.limits.requirements), f"nothing of {name}")
-            return node_of(name), found
+            matched, needed = self.wanted(source, node_of(name))
+            want(not matched and (isinstance(source, Line) or len(needed) > self.limits.requirements), f"nothing of {name}")
+            return node_of(name), matched
         if isinstance(source, Line):
-            found, _ = self.wanted(source, node_of(name))
-            want(told == name and found == set(keys_of(self.problem, node_of(name)[0])), f"each release of {name}")
-            return node_of(name), found
+            matched, _ = self.wanted(source, node_of(name))
+            want(told == name and matched == set(keys_of(self.problem, node_of(name)[0])), f"each release of {name}")
+            return node_of(name), matched
         return self.asked_by_requirements(source, read_requirements(told))
 
     def asked_range(self, source, node, told):
         """The releases of a range, which are those that match; or the ones between the least and the greatest of many."""
-        found, needed = self.wanted(source, node)
+        matched, needed = self.wanted(source, node)
         keys = keys_of(self.problem, node[0])
         between = re.fullmatch("between (.*) and (.*)", told)
         if between:
-            ends = [order_key(read_version(it)) for it in between.groups()]
-            want(run_count(self.problem, node[0], found) > self.limits.runs and ends == [min(found), max(found)], f"the ends of {told}")
+            ends = [order_key(read_version(version)) for version in between.groups()]
+            want(run_count(self.problem, node[0], matched) > self.limits.runs and ends == [min(matched), max(matched)], f"the ends of {told}")
             return frozenset(key for key in keys if ends[0] <= key <= ends[1])
         bound = re.fullmatch(f"({sentences.VERSION}) or newer", told)
         clauses = {clauses for _, _, clauses in needed}
         if bound and clauses == {tuple(read_set(f">={bound[1]}"))}:
-            return found
+            return matched
         told_keys = runs_told(self.problem, node[0], told, "or")
-        want(told_keys == found and len(found) < len(keys), f"the releases that are asked for: {told}")
-        want(run_count(self.problem, node[0], found) <= self.limits.runs, f"a few runs: {told}")
-        return found
+        want(told_keys == matched and len(matched) < len(keys), f"the releases that are asked for: {told}")
+        want(run_count(self.problem, node[0], matched) <= self.limits.runs, f"a few runs: {told}")
+        return matched
 
     def asked_by_requirements(self, source, told):
         """The releases that match a requirement, which is that of each release of a term; or that match none of several."""
         names = {(name, extras[0] if len(extras) == 1 and not clauses else None) for name, extras, clauses in told}
         want(len({name for name, _ in names}) == 1, f"one name: {told}")
         node = min(names, key=str) if len(told) == 1 else (told[0][0], None)
-        found, needed = self.wanted(source, node)
-        if needed == set(told) and (len(told) == 1 or not found):
-            return node, found
-        want(not told[0][2] and found == set(keys_of(self.problem, node[0])), f"what is asked for: {told}")
-        return node, found
+        matched, needed = self.wanted(source, node)
+        if needed == set(told) and (len(told) == 1 or not matched):
+            return node, matched
+        want(not told[0][2] and matched == set(keys_of(self.problem, node[0])), f"what is asked for: {told}")
+        return node, matched

@@ -44,17 +44,17 @@ def local_part(text):
 @lru_cache(2**14)
 def read_version(text):
     """The version that a text spells; None where it spells none, or has a number of more than 64 bits."""
-    found = VERSION.fullmatch(text.strip(SPACE))
-    if found is None:
+    match = VERSION.fullmatch(text.strip(SPACE))
+    if match is None:
         return None
-    word, post = found["pre"], found["bare_post"] or found["post_number"]
+    word, post = match["pre"], match["bare_post"] or match["post_number"]
     version = Version(
-        epoch=number_of(found["epoch"] or ""),
-        release=tuple(map(number_of, found["release"].split("."))),
-        pre=word and (PRE_WORDS.get(word.lower(), word.lower()), number_of(found["pre_number"])),
+        epoch=number_of(match["epoch"] or ""),
+        release=tuple(map(number_of, match["release"].split("."))),
+        pre=word and (PRE_WORDS.get(word.lower(), word.lower()), number_of(match["pre_number"])),
         post=None if post is None else number_of(post),
-        dev=number_of(found["dev_number"]) if found["dev"] else None,
-        local=found["local"] and tuple(map(local_part, re.split("[-_.]", found["local"]))),
+        dev=number_of(match["dev_number"]) if match["dev"] else None,
+        local=match["local"] and tuple(map(local_part, re.split("[-_.]", match["local"]))),
     )
     return version if max(numbers_of(version)) <= LARGEST else None
 

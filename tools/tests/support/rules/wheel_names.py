@@ -13,27 +13,27 @@ WHEEL = re.compile(
 
 
 def parts_of(name):
-    found = WHEEL.fullmatch(name)
-    want(found is not None, "the name of a wheel")
-    return found
+    match = WHEEL.fullmatch(name)
+    want(match is not None, "the name of a wheel")
+    return match
 
 
-def tags_of(name):
+def wheel_tags(name):
     """Each of the last three parts of a wheel's name may stand for several, with dots between: the wheel has all tags of these."""
-    found = parts_of(name)
-    return {"-".join(tag) for tag in product(*(found[part].lower().split(".") for part in ("python", "abi", "platform")))}
+    parts = parts_of(name)
+    return {"-".join(tag) for tag in product(*(parts[part].lower().split(".") for part in ("python", "abi", "platform")))}
 
 
 def build_of(name):
     """A wheel without a build number stands behind all that have one. The greatest one is taken, by its number and then its text."""
-    found = parts_of(name)
-    return () if found["number"] is None else (int(found["number"]), found["rest"])
+    parts = parts_of(name)
+    return () if parts["number"] is None else (int(parts["number"]), parts["rest"])
 
 
 def best_wheel(names, tags):
     """The name of the wheel that is taken where wheels of these tags run, the best tag first; None where no wheel runs there."""
     places = {tag.lower(): place for place, tag in reversed(list(enumerate(tags)))}
-    ranks = {name: min((places[tag] for tag in tags_of(name) & places.keys()), default=None) for name in names}
+    ranks = {name: min((places[tag] for tag in wheel_tags(name) & places.keys()), default=None) for name in names}
     fitting = [name for name in names if ranks[name] is not None]
-    best = [name for name in fitting if ranks[name] == min(ranks[it] for it in fitting)]
+    best = [name for name in fitting if ranks[name] == min(ranks[other] for other in fitting)]
     return max(best, key=build_of, default=None)
