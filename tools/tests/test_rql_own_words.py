@@ -16,34 +16,34 @@ OPTIONS = " --dir web --index .reqlock/index.asked.json"
 # Each line of the program's sources that names a call, with calls as they are then printed, and what rql has for them. A form for which
 # rql has nothing has None.
 FORMS = {
-    "    reqlock{options} add": {f"reqlock{OPTIONS} add 'flask>=2'": "rql add 'flask>=2'"},
-    "    reqlock{options} remove {name}": {f"reqlock{OPTIONS} remove flask": "rql remove flask"},
-    "    reqlock{options} constrain {name}": {
+    "reqlock{options} add": {f"reqlock{OPTIONS} add 'flask>=2'": "rql add 'flask>=2'"},
+    "reqlock{options} remove {name}": {f"reqlock{OPTIONS} remove flask": "rql remove flask"},
+    "reqlock{options} constrain {name}": {
         f"reqlock{OPTIONS} constrain flask '>=2,<3'": "rql constrain flask '>=2,<3'",
         f"reqlock{OPTIONS} constrain flask '==2'": "rql constrain flask '==2'",
     },
-    "    reqlock{options} upgrade {name}": {f"reqlock{OPTIONS} upgrade flask": "rql upgrade flask"},
-    "    reqlock{options} upgrade": {f"reqlock{OPTIONS} --dry-run upgrade": "rql upgrade --dry-run"},
-    "    reqlock{options} replace --line {name}": {f"reqlock{OPTIONS} replace --line flask 'flask[async]'": "rql set 'flask[async]'"},
-    "    reqlock{options} {words}": {f"reqlock{OPTIONS} relock": "rql relock", "reqlock --dir web show --tree": "rql tree"},
-    "    reqlock{options} retarget --env environment.json": {f"reqlock{OPTIONS} retarget --env environment.json": "rql retarget"},
-    "    reqlock{options} outdated": {f"reqlock{OPTIONS} outdated": "rql outdated"},
-    "    reqlock{options} {subcommand}": {f"reqlock{OPTIONS} undo": "rql undo", f"reqlock{OPTIONS} redo": "rql redo"},
-    "    reqlock show": {"reqlock show": "rql show"},
-    "    reqlock show --tree": {"reqlock show --tree": "rql tree"},
-    "    reqlock show {normal}": {"reqlock show flask": "rql show flask"},
-    "    reqlock log": {"reqlock log": "rql log"},
-    "    reqlock{folder} log": {"reqlock --dir web log": "rql log"},
-    "    reqlock{folder} check -v": {"reqlock --dir web check -v": "rql check -v"},
-    "    reqlock{folder} diff --json": {"reqlock --dir web diff --json": "rql diff --json"},
-    "    reqlock{folder} export --format hashes": {"reqlock --dir web export --format hashes": "rql export --format hashes"},
-    "    reqlock{folder} export >locked.txt": {"reqlock --dir web export >locked.txt": "rql export >locked.txt"},
-    "    reqlock {option} {value}": {
+    "reqlock{options} upgrade {name}": {f"reqlock{OPTIONS} upgrade flask": "rql upgrade flask"},
+    "reqlock{options} upgrade": {f"reqlock{OPTIONS} --dry-run upgrade": "rql upgrade --dry-run"},
+    "reqlock{options} replace --line {name}": {f"reqlock{OPTIONS} replace --line flask 'flask[async]'": "rql set 'flask[async]'"},
+    "reqlock{options} {words}": {f"reqlock{OPTIONS} relock": "rql relock", "reqlock --dir web show --tree": "rql tree"},
+    "reqlock{options} retarget --env environment.json": {f"reqlock{OPTIONS} retarget --env environment.json": "rql retarget"},
+    "reqlock{options} outdated": {f"reqlock{OPTIONS} outdated": "rql outdated"},
+    "reqlock{options} {subcommand}": {f"reqlock{OPTIONS} undo": "rql undo", f"reqlock{OPTIONS} redo": "rql redo"},
+    "reqlock show": {"reqlock show": "rql show"},
+    "reqlock show --tree": {"reqlock show --tree": "rql tree"},
+    "reqlock show {normal}": {"reqlock show flask": "rql show flask"},
+    "reqlock log": {"reqlock log": "rql log"},
+    "reqlock{folder} log": {"reqlock --dir web log": "rql log"},
+    "reqlock{folder} check -v": {"reqlock --dir web check -v": "rql check -v"},
+    "reqlock{folder} diff --json": {"reqlock --dir web diff --json": "rql diff --json"},
+    "reqlock{folder} export --format hashes": {"reqlock --dir web export --format hashes": "rql export --format hashes"},
+    "reqlock{folder} export >locked.txt": {"reqlock --dir web export >locked.txt": "rql export >locked.txt"},
+    "reqlock {option} {value}": {
         "reqlock --index index.json --dir web skipped": "rql skipped",
         "reqlock --env environment.json --dir web --index index.json why --explain --init": "rql why --explain --init",
     },
     # `init`, and `replace` of lines that were changed by hand
-    "    reqlock": {
+    "reqlock": {
         f"reqlock{OPTIONS} --env e.json init --pins web/pylock.toml": "rql init --from web/pylock.toml",
         "reqlock --index index.json --env environment.json init": "rql init",
         f"reqlock{OPTIONS} replace --was COPY": "rql lock",
@@ -60,16 +60,16 @@ FORMS = {
         f"reqlock{OPTIONS} why --explain --replace": "rql why --explain --replace new.txt",
     },
     "ask: reqlock{options} why --explain --init": {f"reqlock{OPTIONS} --env e.json why --explain --init": "rql why --explain --init"},
-    "    reqlock-snapshot again": {"reqlock-snapshot again 'flask[async]' rich --output i.json": "rql index 'flask[async]' rich"},
-    "    reqlock-snapshot simple": {
+    "reqlock-snapshot again": {"reqlock-snapshot again 'flask[async]' rich --output i.json": "rql index 'flask[async]' rich"},
+    "reqlock-snapshot simple": {
         "reqlock-snapshot simple https://index.example/simple/ rich --for requirements.txt --env e.json --output i.json": "rql index rich",
     },
-    "    reqlock-merge": {"reqlock-merge --dir web --index index.json": "rql lock"},
-    "    reqlock-environment >": {"reqlock-environment >environment.json": None},
-    "    reqlock-environment --python 3.12 --platform linux-x86_64 >environment.json": {
+    "reqlock-merge": {"reqlock-merge --dir web --index index.json": "rql lock"},
+    "reqlock-environment >": {"reqlock-environment >environment.json": None},
+    "reqlock-environment --python 3.12 --platform linux-x86_64 >environment.json": {
         "reqlock-environment --python 3.12 --platform linux-x86_64 >environment.json": None,
     },
-    "    reqlock-environment --python {path} --platform linux-x86_64 >environment.json": {
+    "reqlock-environment --python {path} --platform linux-x86_64 >environment.json": {
         "reqlock-environment --python 3.11 --platform linux-x86_64 >environment.json": None,
     },
 }
