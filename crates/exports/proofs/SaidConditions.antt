@@ -1,5 +1,5 @@
 -- Which conditions others say.
-use Rattle.std.proofs.Common.{◌≡◌, ◌∙◌, ◌&&◌, ◌||◌, ◌==◌, ◌⊎◌, inl, inr, not, ℕ, Bool, true, false, List, [], ◌∷◌, length, Option, Some, None, is_some, if◌then◌else◌, arith, refl, ap, sym}
+use Rattle.std.proofs.Common.{◌≡◌, ◌∙◌, ◌&&◌, ◌||◌, ◌==◌, ◌⊎◌, inl, inr, not, ℕ, Bool, true, false, List, [], ◌∷◌, length, Option, Some, None, is_some, arith, refl, ap, sym}
 use Rattle.std.specs.Cmp.{IsTotalOrder, nat_cmp_total, on_total, then_total}
 use Rattle.std.specs.Cmp.Lexicographic.{nat_list_cmp_total, slice_cmp}
 use Rattle.std.specs.List.{list_any, slice_index_or}
@@ -12,6 +12,7 @@ use Rattle.std.proofs.lemmas.Slice.Eq.{bytes_eq-Decides}
 use Rattle.markers.specs.Comparisons.{version_read}
 use Rattle.markers.specs.Environment.{Texts, place_of, text_of}
 use Rattle.markers.specs.MarkerAtoms.{operand_text, relates}
+use Rattle.markers.specs.declared.comparison.Comparison.{Comparison}
 use Rattle.markers.specs.declared.comparison.Comparison.TheVariants as comparisons
 use Rattle.markers.specs.declared.marker_atom.Operand.{Operand}
 use Rattle.markers.specs.declared.marker_atom.Operand.TheVariants as operands
@@ -26,7 +27,7 @@ use Rattle.pep440.specs.declared.specifier.Clause.{Clause}
 use Rattle.pep440.specs.declared.specifier.Operator.{Operator}
 use Rattle.pep440.specs.declared.specifier.Operator.TheVariants as operators
 use Rattle.exports.specs.Conditions.{is_matched}
-use Rattle.exports.specs.Tied.Implication.{are_both, does_follow, has_no_other, has_release_of, is_from, is_plain, is_same_clause, is_same_marker_operator, is_same_operand, is_same_operator, is_same_plain, is_up_to, marker_operator_number, number_of, opposite_of, says}
+use Rattle.exports.specs.Tied.Implication.{are_both, does_follow, has_no_other, has_release_of, is_from, is_plain, is_same_clause, is_same_comparison, is_same_marker_operator, is_same_operand, is_same_operator, is_same_plain, is_up_to, opposite_of, says}
 use Rattle.exports.specs.Tied.Kept.{ClauseFollows, Says, SaysAmong}
 use Rattle.exports.specs.declared.condition.Condition.{Condition}
 use Rattle.exports.specs.declared.condition.Condition.TheVariants.{Same, Matches, Holds}
@@ -217,34 +218,17 @@ pub none-left : {A : Type 0} (xs : List A) → length xs ≡ 0 → xs ≡ []
 none-left [] h = refl
 none-left (x ∷ xs) h = absurd (omega arith)
 
-abbrev pub numbered : ℕ → Operator
-numbered n =
-    if n == 0 then operators.Compatible
-    else if n == 1 then operators.Equal
-    else if n == 2 then operators.NotEqual
-    else if n == 3 then operators.EqualPrefix
-    else if n == 4 then operators.NotEqualPrefix
-    else if n == 5 then operators.AtMost
-    else if n == 6 then operators.AtLeast
-    else if n == 7 then operators.Below
-    else operators.Above
-
-pub told : (operator : Operator) → operator ≡ numbered (number_of operator)
-told operators.Compatible = refl
-told operators.Equal = refl
-told operators.NotEqual = refl
-told operators.EqualPrefix = refl
-told operators.NotEqualPrefix = refl
-told operators.AtMost = refl
-told operators.AtLeast = refl
-told operators.Below = refl
-told operators.Above = refl
-
-pub is_with : (operator : Operator) (number : ℕ) → (number_of operator == number) ≡ true → operator ≡ numbered number
-is_with operator number h = told operator ∙ ap numbered (nat-same (number_of operator) number h)
-
 pub same-operator : (operator wanted : Operator) → is_same_operator operator wanted ≡ true → operator ≡ wanted
-same-operator operator wanted h = is_with operator (number_of wanted) h ∙ sym (told wanted)
+same-operator operators.Compatible operators.Compatible h = refl
+same-operator operators.Equal operators.Equal h = refl
+same-operator operators.NotEqual operators.NotEqual h = refl
+same-operator operators.EqualPrefix operators.EqualPrefix h = refl
+same-operator operators.NotEqualPrefix operators.NotEqualPrefix h = refl
+same-operator operators.AtMost operators.AtMost h = refl
+same-operator operators.AtLeast operators.AtLeast h = refl
+same-operator operators.Below operators.Below h = refl
+same-operator operators.Above operators.Above h = refl
+same-operator operator wanted h = absurd cc
 
 pub opposite-turns : (operator other : Operator) (wanted version : VersionParts) → opposite_of operator ≡ Some other → operator_matches other wanted version ≡ true → operator_matches operator wanted version ≡ false
 opposite-turns operators.Compatible other wanted version e h = absurd cc
@@ -318,30 +302,21 @@ follows clause wanted h = elim (one-of (are_both operators.AtLeast clause wanted
 
 -- ---- conditions
 
-abbrev marker_operator_numbered : ℕ → MarkerOperator
-marker_operator_numbered n =
-    if n == 0 then marker_operators.Compare comparisons.Compatible
-    else (if n == 1 then marker_operators.Compare comparisons.Equal
-    else (if n == 2 then marker_operators.Compare comparisons.NotEqual
-    else (if n == 3 then marker_operators.Compare comparisons.AtMost
-    else (if n == 4 then marker_operators.Compare comparisons.AtLeast
-    else (if n == 5 then marker_operators.Compare comparisons.Below
-    else (if n == 6 then marker_operators.Compare comparisons.Above
-    else (if n == 7 then marker_operators.In else marker_operators.NotIn)))))))
-
-told-marker_operator : (operator : MarkerOperator) → operator ≡ marker_operator_numbered (marker_operator_number operator)
-told-marker_operator (marker_operators.Compare comparisons.Compatible) = refl
-told-marker_operator (marker_operators.Compare comparisons.Equal) = refl
-told-marker_operator (marker_operators.Compare comparisons.NotEqual) = refl
-told-marker_operator (marker_operators.Compare comparisons.AtMost) = refl
-told-marker_operator (marker_operators.Compare comparisons.AtLeast) = refl
-told-marker_operator (marker_operators.Compare comparisons.Below) = refl
-told-marker_operator (marker_operators.Compare comparisons.Above) = refl
-told-marker_operator marker_operators.In = refl
-told-marker_operator marker_operators.NotIn = refl
+same-comparison : (comparison wanted : Comparison) → is_same_comparison comparison wanted ≡ true → comparison ≡ wanted
+same-comparison comparisons.Compatible comparisons.Compatible h = refl
+same-comparison comparisons.Equal comparisons.Equal h = refl
+same-comparison comparisons.NotEqual comparisons.NotEqual h = refl
+same-comparison comparisons.AtMost comparisons.AtMost h = refl
+same-comparison comparisons.AtLeast comparisons.AtLeast h = refl
+same-comparison comparisons.Below comparisons.Below h = refl
+same-comparison comparisons.Above comparisons.Above h = refl
+same-comparison comparison wanted h = absurd cc
 
 pub same-marker_operator : (operator wanted : MarkerOperator) → is_same_marker_operator operator wanted ≡ true → operator ≡ wanted
-same-marker_operator operator wanted h = told-marker_operator operator ∙ ap marker_operator_numbered (nat-same (marker_operator_number operator) (marker_operator_number wanted) h) ∙ sym (told-marker_operator wanted)
+same-marker_operator (marker_operators.Compare own) (marker_operators.Compare comparison) h = ap marker_operators.Compare (same-comparison own comparison h)
+same-marker_operator marker_operators.In marker_operators.In h = refl
+same-marker_operator marker_operators.NotIn marker_operators.NotIn h = refl
+same-marker_operator operator wanted h = absurd cc
 
 matched-follows : (clause wanted : Clause) (read : Option VersionParts) → ClauseFollows clause wanted → is_matched clause read ≡ true → is_matched wanted read ≡ true
 matched-follows clause wanted None f h = h

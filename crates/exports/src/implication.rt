@@ -3,12 +3,12 @@
 ghost use Rattle.std.specs.Prelude.{◌≡◌};
 ghost use Rattle.std.specs.List.{list_any};
 ghost use Rattle.markers.specs.Environment.{place_of};
-ghost use Rattle.exports.specs.Tied.Implication.{are_both, does_follow, has_no_other, has_release_of, is_from, is_plain, is_same_clause, is_same_marker_operator, is_same_operand, is_same_operator, is_same_plain, is_up_to, marker_operator_number, number_of, opposite_of, says};
+ghost use Rattle.exports.specs.Tied.Implication.{are_both, does_follow, has_no_other, has_release_of, is_from, is_plain, is_same_clause, is_same_marker_operator, is_same_operand, is_same_plain, is_up_to, opposite_of, says};
 
 use crate::condition::Condition;
 use markers::marker_relations::{MarkerOperator, Operand};
 use pep440::{Clause, Operator, Version};
-use pep508::{Comparison, Variable};
+use pep508::Variable;
 
 /// The operator that matches no version which this one matches with the same version; `None` where there is none.
 pub(crate) fn opposite(operator: Operator) -> Option<Operator>
@@ -25,18 +25,6 @@ pub(crate) fn opposite(operator: Operator) -> Option<Operator>
         Operator::Below => Some(Operator::AtLeast),
         Operator::Above => Some(Operator::AtMost),
     }
-}
-
-fn number_of(operator: Operator) -> usize
-    ensures { result ≡ number_of operator }
-{
-    operator as usize
-}
-
-pub(crate) fn is_same_operator(operator: Operator, wanted: Operator) -> bool
-    ensures { result ≡ is_same_operator operator wanted }
-{
-    number_of(operator) == number_of(wanted)
 }
 
 fn place_of(variable: Variable) -> usize
@@ -68,8 +56,7 @@ pub(crate) fn is_same_plain(one: &Version, other: &Version) -> bool
 fn is_same_clause(clause: &Clause, wanted: &Clause) -> bool
     ensures { result ≡ is_same_clause clause.now wanted.now }
 {
-    is_same_operator(clause.operator, wanted.operator)
-        && is_same_plain(&clause.version, &wanted.version)
+    clause.operator == wanted.operator && is_same_plain(&clause.version, &wanted.version)
 }
 
 fn is_from(bound: &Version, wanted: &Version) -> bool
@@ -88,7 +75,7 @@ fn is_up_to(bound: &Version, wanted: &Version) -> bool
 fn are_both(operator: Operator, clause: &Clause, wanted: &Clause) -> bool
     ensures { result ≡ are_both operator clause.now wanted.now }
 {
-    is_same_operator(clause.operator, operator) && is_same_operator(wanted.operator, operator)
+    clause.operator == operator && wanted.operator == operator
 }
 
 /// Whether the first clause is known to match no version that the wanted one doesn't: a lower bound says each lesser
@@ -102,26 +89,15 @@ pub(crate) fn does_follow(clause: &Clause, wanted: &Clause) -> bool
             || is_same_clause(clause, wanted))
 }
 
-fn marker_operator_number(operator: MarkerOperator) -> usize
-    ensures { result ≡ marker_operator_number operator }
-{
-    match operator {
-        MarkerOperator::Compare(Comparison::Compatible) => 0,
-        MarkerOperator::Compare(Comparison::Equal) => 1,
-        MarkerOperator::Compare(Comparison::NotEqual) => 2,
-        MarkerOperator::Compare(Comparison::AtMost) => 3,
-        MarkerOperator::Compare(Comparison::AtLeast) => 4,
-        MarkerOperator::Compare(Comparison::Below) => 5,
-        MarkerOperator::Compare(Comparison::Above) => 6,
-        MarkerOperator::In => 7,
-        MarkerOperator::NotIn => 8,
-    }
-}
-
 fn is_same_marker_operator(operator: MarkerOperator, wanted: MarkerOperator) -> bool
     ensures { result ≡ is_same_marker_operator operator wanted }
 {
-    marker_operator_number(operator) == marker_operator_number(wanted)
+    match (operator, wanted) {
+        (MarkerOperator::Compare(own), MarkerOperator::Compare(comparison)) => own == comparison,
+        (MarkerOperator::In, MarkerOperator::In) => true,
+        (MarkerOperator::NotIn, MarkerOperator::NotIn) => true,
+        (MarkerOperator::Compare(_) | MarkerOperator::In | MarkerOperator::NotIn, _) => false,
+    }
 }
 
 fn is_same_operand(operand: &Operand, wanted: &Operand) -> bool

@@ -3,7 +3,7 @@
 ghost use Rattle.std.specs.Prelude.{◌≡◌};
 ghost use Rattle.exports.specs.Tied.Opposites.{are_opposed, has_operator, has_opposed, is_fixed, is_opposed, opposite_marker_operator};
 
-use crate::implication::{is_same_operator, is_same_plain, opposite};
+use crate::implication::{is_same_plain, opposite};
 use markers::marker_relations::{MarkerOperator, Operand};
 use pep440::{Clause, Operator};
 use pep508::Comparison;
@@ -54,7 +54,7 @@ fn has_operator(operator: Option<Operator>, wanted: Operator) -> bool
     ensures { result ≡ has_operator operator wanted }
 {
     match operator {
-        Some(operator) => is_same_operator(operator, wanted),
+        Some(operator) => operator == wanted,
         None => false,
     }
 }

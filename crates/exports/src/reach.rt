@@ -5,7 +5,7 @@ ghost use Rattle.std.specs.List.{AllByRecursion, flat_map};
 ghost use Rattle.exports.specs.Tied.Kept.{ClauseFollows};
 ghost use Rattle.exports.specs.Tied.Reach.{AreAsked, Gathers, IsCovered, IsFollowed, IsWider, needs_below, needs_of, wanted_by};
 
-use crate::implication::{does_follow, is_same_operator};
+use crate::implication::does_follow;
 use changes::Same;
 use lists::Seq;
 use pep440::Clause;
@@ -50,7 +50,7 @@ impl Model for Asked {
 fn is_same(clause: &Clause, wanted: &Clause) -> bool
     ensures { IsTrue result → clause.now ≡ wanted.now }
 {
-    is_same_operator(clause.operator, wanted.operator) && clause.version.is_same(&wanted.version)
+    clause.operator == wanted.operator && clause.version.is_same(&wanted.version)
 }
 
 /// Whether the first clause is known to match no version that the wanted one doesn't.

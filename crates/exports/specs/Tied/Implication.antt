@@ -1,10 +1,11 @@
 -- Which conditions others are known to say.
 -- Tied to `Says` by the contract of `says`; need not be read.
-use Rattle.std.specs.Prelude.{ℕ, ◌==◌, ◌&&◌, ◌||◌, not, nat_eq, Bool, true, false, length, Option, Some, None}
+use Rattle.std.specs.Prelude.{◌==◌, ◌&&◌, ◌||◌, not, nat_eq, Bool, true, false, length, Option, Some, None}
 use Rattle.std.specs.Cmp.Lexicographic.{pointwise}
 use Rattle.std.specs.Ordering.{is_ge, is_le}
 use Rattle.std.specs.Str.{bytes_eq}
 use Rattle.markers.specs.Environment.{place_of}
+use Rattle.markers.specs.declared.comparison.Comparison.{Comparison}
 use Rattle.markers.specs.declared.comparison.Comparison.TheVariants as comparisons
 use Rattle.markers.specs.declared.marker_atom.Operand.{Operand}
 use Rattle.markers.specs.declared.marker_atom.Operand.TheVariants as operands
@@ -31,20 +32,17 @@ opposite_of operators.AtLeast = Some operators.Below
 opposite_of operators.Below = Some operators.AtLeast
 opposite_of operators.Above = Some operators.AtMost
 
--- the number of an operator
-abbrev pub number_of : Operator → ℕ
-number_of operators.Compatible = 0
-number_of operators.Equal = 1
-number_of operators.NotEqual = 2
-number_of operators.EqualPrefix = 3
-number_of operators.NotEqualPrefix = 4
-number_of operators.AtMost = 5
-number_of operators.AtLeast = 6
-number_of operators.Below = 7
-number_of operators.Above = 8
-
 abbrev pub is_same_operator : Operator → Operator → Bool
-is_same_operator operator wanted = number_of operator == number_of wanted
+is_same_operator operators.Compatible operators.Compatible = true
+is_same_operator operators.Equal operators.Equal = true
+is_same_operator operators.NotEqual operators.NotEqual = true
+is_same_operator operators.EqualPrefix operators.EqualPrefix = true
+is_same_operator operators.NotEqualPrefix operators.NotEqualPrefix = true
+is_same_operator operators.AtMost operators.AtMost = true
+is_same_operator operators.AtLeast operators.AtLeast = true
+is_same_operator operators.Below operators.Below = true
+is_same_operator operators.Above operators.Above = true
+is_same_operator operator wanted = false
 
 -- no part but the epoch and the release
 abbrev pub is_plain : VersionParts → Bool
@@ -79,20 +77,21 @@ does_follow clause wanted =
     || ((are_both operators.Below clause wanted && is_up_to clause.version wanted.version)
     || is_same_clause clause wanted)
 
--- the number of an operator of markers
-abbrev pub marker_operator_number : MarkerOperator → ℕ
-marker_operator_number (marker_operators.Compare comparisons.Compatible) = 0
-marker_operator_number (marker_operators.Compare comparisons.Equal) = 1
-marker_operator_number (marker_operators.Compare comparisons.NotEqual) = 2
-marker_operator_number (marker_operators.Compare comparisons.AtMost) = 3
-marker_operator_number (marker_operators.Compare comparisons.AtLeast) = 4
-marker_operator_number (marker_operators.Compare comparisons.Below) = 5
-marker_operator_number (marker_operators.Compare comparisons.Above) = 6
-marker_operator_number marker_operators.In = 7
-marker_operator_number marker_operators.NotIn = 8
+abbrev pub is_same_comparison : Comparison → Comparison → Bool
+is_same_comparison comparisons.Compatible comparisons.Compatible = true
+is_same_comparison comparisons.Equal comparisons.Equal = true
+is_same_comparison comparisons.NotEqual comparisons.NotEqual = true
+is_same_comparison comparisons.AtMost comparisons.AtMost = true
+is_same_comparison comparisons.AtLeast comparisons.AtLeast = true
+is_same_comparison comparisons.Below comparisons.Below = true
+is_same_comparison comparisons.Above comparisons.Above = true
+is_same_comparison comparison wanted = false
 
 abbrev pub is_same_marker_operator : MarkerOperator → MarkerOperator → Bool
-is_same_marker_operator operator wanted = marker_operator_number operator == marker_operator_number wanted
+is_same_marker_operator (marker_operators.Compare own) (marker_operators.Compare comparison) = is_same_comparison own comparison
+is_same_marker_operator marker_operators.In marker_operators.In = true
+is_same_marker_operator marker_operators.NotIn marker_operators.NotIn = true
+is_same_marker_operator operator wanted = false
 
 -- both are the same variable, or the same text
 abbrev pub is_same_operand : Operand → Operand → Bool
