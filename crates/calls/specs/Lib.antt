@@ -3,3 +3,4 @@ pub mod Replaces
 pub mod Retargets
 pub mod Stops
 pub mod SubcommandFiles
+pub mod Tied

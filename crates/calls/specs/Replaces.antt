@@ -1,16 +1,43 @@
 -- The edit that a replacement is. All of it is reqlock's own rule.
-use Rattle.std.specs.Prelude.{◌≡◌, List, map, IsSomeAnd}
+use Rattle.std.specs.Prelude.{◌≡◌, ℕ, List, map, IsSomeAnd, Ok}
+use Rattle.std.specs.List.{concat}
+use Rattle.command_line.specs.declared.invocation.NewLines.{NewLines}
+use Rattle.command_line.specs.declared.invocation.NewLines.TheVariants.{File, Was, Line}
+use Rattle.edits.specs.ExchangedLine.{with_line_on}
 use Rattle.edits.specs.declared.pins.TargetPins.{TargetPins}
 use Rattle.edits.specs.declared.request.Edit.{Edit}
 use Rattle.edits.specs.declared.request.Edit.TheVariants.{Replace}
+use Rattle.files.specs.Beside.{StandFor}
+use Rattle.files.specs.declared.saved_files.SavedFiles.{SavedFiles}
+use Rattle.inputs.specs.Inputs.{requirements_in}
 use Rattle.inputs.specs.PinsFiles.{ArePinsFor, without_lock}
 use Rattle.journal.specs.Changes.{HistoryParts}
+use Rattle.journal.specs.Opens.{Opens}
 use Rattle.journal.specs.Past.{present}
 use Rattle.journal.specs.Values.{ReqFile}
+use Rattle.markers.specs.Names.{normal_of}
 
--- an edit puts other lines in the place of all lines, with pins for each target of the present state
-pub record IsReplacement (history : HistoryParts) (edit : Edit) : Type 0 where
+-- an edit puts such lines in the place of all lines, with pins for each target of the present state
+pub record Replaces (AreLines : ReqFile → Type 0) (history : HistoryParts) (edit : Edit) : Type 0 where
   pub lines : ReqFile
   pub pins : List TargetPins
   pub is : edit ≡ Replace lines pins
+  pub asked : AreLines lines
   pub pinned : IsSomeAnd (present history.past) (λ state. ArePinsFor (map without_lock state.targets) pins)
+
+-- the new lines: those of a file that was handed in, those that the folder's file has already, or those of the present state with a text in the place of
+-- the line on a name
+abbrev pub AreNewLines : NewLines → SavedFiles → HistoryParts → ReqFile → Type 0
+AreNewLines (File path) files history lines = (bytes : List ℕ) × (requirements_in bytes ≡ Ok lines)
+AreNewLines (Was path) files history lines = requirements_in files.requirements.items ≡ Ok lines
+AreNewLines (Line name text) files history lines =
+    IsSomeAnd (present history.past) (λ state. concat lines ≡ concat (with_line_on (normal_of name.now) text.now state.lines))
+
+abbrev pub IsReplacement : NewLines → SavedFiles → HistoryParts → Edit → Type 0
+IsReplacement asked files history edit = Replaces (AreNewLines asked files history) history edit
+
+-- the files stand for the history, with an old file in the place of the folder's where that has the new lines already
+abbrev pub IsReplaced : NewLines → SavedFiles → HistoryParts → Type 0
+IsReplaced (File path) files history = StandFor files history
+IsReplaced (Was path) files history = (old : List ℕ) × Opens old files.locks.entries files.journal (Ok history)
+IsReplaced (Line name text) files history = StandFor files history

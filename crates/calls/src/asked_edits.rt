@@ -1,7 +1,7 @@
 // The edit that a call asks for, with the history that it is made in.
 
 ghost use Rattle.std.specs.Prelude.{◌≡◌, IfOk};
-ghost use Rattle.calls.specs.AskedEdits.{IsHistoryFor, IsMadeOf, IsSomeHistoryFor};
+ghost use Rattle.calls.specs.AskedEdits.{IsHistoryFor, IsMadeOf, IsMadeOfSome};
 
 use crate::read_edit::{ReadEdit, UnsavedEdit};
 use crate::replacement::{replaced, replaced_to_save};
@@ -25,10 +25,12 @@ pub fn asked_edit_to_save<R: Files + AllocGlobal, I: Read + Drop>(
     targets: Vec<TargetPath>,
     input: I,
 ) -> Result<ReadEdit, Stop>
+where
+    R::File: LockFile,
     ensures history { IfOk result
         (λ read. IsHistoryFor asked.entry read.history.files read.history.session) }
-    ensures edit { IfOk result
-        (λ read. IsMadeOf asked.entry targets.items read.history.session read.edit) }
+    ensures edit { IfOk result (λ read. IsMadeOf asked.entry targets.items
+        read.history.files read.history.session read.edit) }
 {
     match asked {
         AskedEdit::Typed(edit) => {
@@ -54,9 +56,8 @@ pub fn asked_edit<R: Files + AllocGlobal, I: Read + Drop>(
 ) -> Result<UnsavedEdit, Stop>
 where
     R::File: LockFile,
-    ensures history { IfOk result (λ read. IsSomeHistoryFor asked.entry read.session) }
-    ensures edit { IfOk result
-        (λ read. IsMadeOf asked.entry targets.items read.session read.edit) }
+    ensures { IfOk result
+        (λ read. IsMadeOfSome asked.entry targets.items read.session read.edit) }
 {
     match asked {
         AskedEdit::Typed(edit) => {

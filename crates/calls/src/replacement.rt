@@ -1,7 +1,9 @@
 // What `replace` reads, and the edit that it is.
 
-ghost use Rattle.std.specs.Prelude.{◌≡◌, IfOk, map};
-ghost use Rattle.calls.specs.Replaces.{IsReplacement};
+ghost use Rattle.std.specs.Prelude.{◌≡◌, IfOk, Ok, map};
+ghost use Rattle.calls.specs.Replaces.{IsReplaced, IsReplacement, Replaces};
+ghost use Rattle.calls.specs.Tied.ReadLines.{AreMadeOf, AreReadFor, IsOpened};
+ghost use Rattle.inputs.specs.Inputs.{requirements_in};
 ghost use Rattle.inputs.specs.PinsFiles.{ArePinsFor, given_by, without_lock};
 
 use crate::read_edit::ReadEdit;
@@ -22,7 +24,7 @@ use stops::Stop;
 
 /// The lines that take the place of all lines, or what they are made of.
 #[derive(Drop)]
-enum LinesRead<'a> {
+pub enum LinesRead<'a> {
     /// What the new file holds.
     New(Vec<u8>),
     /// What the file held before somebody changed it. The folder's file has the new lines.
@@ -40,15 +42,17 @@ pub(crate) fn replaced_to_save<R: Files + AllocGlobal, I: Read + Drop>(
     options: EditOptions<'_>,
     input: I,
 ) -> Result<ReadEdit, Stop>
-    ensures { IfOk result (λ read. IsReplacement read.history.session read.edit) }
+where
+    R::File: LockFile,
+    ensures history { IfOk result (λ read. IsReplaced replacement.now.lines read.history.files
+        read.history.session) }
+    ensures edit { IfOk result (λ read. IsReplacement replacement.now.lines read.history.files
+        read.history.session read.edit) }
 {
     let files = SavedFiles::read_to_save(rt, dir)?;
     let read = read_handed(rt, replacement, options, input)?;
-    let (files, session) = match &read.lines {
-        LinesRead::Old(old) => files.open_hand_changed(rt, dir, old.as_slice())?,
-        LinesRead::New(_) | LinesRead::Line(_, _) => files.open_to_save(rt, dir)?,
-    };
-    made_of(rt.alloc(), files, session, read)
+    let (files, session) = opened_to_save(rt, dir, files, &read.lines)?;
+    Ok(made_of(rt.alloc(), files, session, read)?)
 }
 
 /// The same, where nothing is to be saved: the files are read as they stand.
@@ -61,16 +65,44 @@ pub(crate) fn replaced<R: Files + AllocGlobal, I: Read + Drop>(
 ) -> Result<ReadEdit, Stop>
 where
     R::File: LockFile,
-    ensures { IfOk result (λ read. IsReplacement read.history.session read.edit) }
+    ensures history { IfOk result (λ read. IsReplaced replacement.now.lines read.history.files
+        read.history.session) }
+    ensures edit { IfOk result (λ read. IsReplacement replacement.now.lines read.history.files
+        read.history.session read.edit) }
 {
     let alloc = rt.alloc();
     let files = saved_files(rt, dir)?;
     let read = read_handed(rt, replacement, options, input)?;
-    let session = match &read.lines {
-        LinesRead::Old(old) => files.open_with(alloc, old.as_slice())?,
-        LinesRead::New(_) | LinesRead::Line(_, _) => files.open(alloc)?,
-    };
-    made_of(alloc, files, session, read)
+    let session = opened(alloc, &files, &read.lines)?;
+    Ok(made_of(alloc, files, session, read)?)
+}
+
+/// The history that files open as, to save another in its place. With the old file in the place of the folder's, if one
+/// was read.
+fn opened_to_save<R: Files + AllocGlobal>(
+    rt: &R,
+    dir: &str,
+    files: SavedFiles,
+    lines: &LinesRead<'_>,
+) -> Result<(SavedFiles, Session), Fault>
+where
+    R::File: LockFile,
+    ensures { IfOk result (λ opened. IsOpened lines.now opened.0 opened.1) }
+{
+    match lines {
+        LinesRead::Old(old) => files.open_hand_changed(rt, dir, old.as_slice()),
+        LinesRead::New(_) | LinesRead::Line(_, _) => files.open_to_save(rt, dir),
+    }
+}
+
+/// The same, where nothing is to be saved.
+fn opened(alloc: Global, files: &SavedFiles, lines: &LinesRead<'_>) -> Result<Session, Fault>
+    ensures { IfOk result (λ session. IsOpened lines.now files.now session) }
+{
+    match lines {
+        LinesRead::Old(old) => files.open_with(alloc, old.as_slice()),
+        LinesRead::New(_) | LinesRead::Line(_, _) => files.open(alloc),
+    }
 }
 
 // What was read beside the files of the folder.
@@ -86,7 +118,9 @@ fn read_handed<'a, R: Files + AllocGlobal, I: Read + Drop>(
     replacement: &Replacement<'a>,
     options: EditOptions<'_>,
     input: I,
-) -> Result<HandedRead<'a>, Fault> {
+) -> Result<HandedRead<'a>, Fault>
+    ensures { IfOk result (λ read. AreReadFor replacement.now.lines read.lines) }
+{
     let index = read_bytes(rt, InputFile::Index, options.index)?;
     let paths = pins_paths(rt.alloc(), replacement.pins.as_slice())?;
     let mut handed_in = HandedIn::new(rt, input);
@@ -106,7 +140,10 @@ fn made_of(
     session: Session,
     read: HandedRead<'_>,
 ) -> Result<ReadEdit, Stop>
-    ensures { IfOk result (λ made. IsReplacement made.history.session made.edit) }
+    ensures files { IfOk result (λ made. made.history.files ≡ files) }
+    ensures session { IfOk result (λ made. made.history.session ≡ session) }
+    ensures edit { IfOk result (λ made. Replaces (AreMadeOf read.entry.lines files session)
+        session made.edit) }
 {
     let HandedRead { index, lines, pins } = read;
     let snapshot = in_file(InputFile::Index, read_index(alloc, index.as_slice()))?;
@@ -128,15 +165,18 @@ fn new_lines(
     files: &SavedFiles,
     session: &Session,
     lines: &LinesRead<'_>,
-) -> Result<Result<ReqFile, Refusal>, Fault> {
+) -> Result<Result<ReqFile, Refusal>, Fault>
+    ensures { IfOk result
+        (λ answer. IfOk answer (AreMadeOf lines.now files.now session.now)) }
+{
     match lines {
         LinesRead::New(bytes) => {
-            let read = read_requirements(alloc, bytes.as_slice());
-            Ok(Ok(in_file(InputFile::NewRequirements, read)?))
+            let lines = lines_in(alloc, InputFile::NewRequirements, bytes.as_slice())?;
+            Ok(Ok(lines))
         }
         LinesRead::Old(_) => {
-            let read = read_requirements(alloc, files.requirements());
-            Ok(Ok(in_file(InputFile::Requirements, read)?))
+            let lines = lines_in(alloc, InputFile::Requirements, files.requirements())?;
+            Ok(Ok(lines))
         }
         LinesRead::Line(name, text) => {
             let name = Text::copy_of(alloc, name)?;
@@ -144,6 +184,14 @@ fn new_lines(
             Ok(with_line_exchanged(alloc, session.state().lines(), &name, &text))
         }
     }
+}
+
+/// The lines that the bytes of a file are.
+fn lines_in(alloc: Global, file: InputFile, bytes: &[u8]) -> Result<ReqFile, Fault>
+    ensures { IfOk result (λ lines. requirements_in bytes.now ≡ Ok lines) }
+{
+    let read = read_requirements(alloc, bytes);
+    in_file(file, read)
 }
 
 /// What the files pin for the targets of a history.

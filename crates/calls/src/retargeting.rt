@@ -52,6 +52,8 @@ pub(crate) fn retargeted_to_save<R: Files + AllocGlobal, I: Read + Drop>(
     options: EditOptions<'_>,
     input: I,
 ) -> Result<ReadEdit, Stop>
+where
+    R::File: LockFile,
     ensures history { IfOk result (λ read. StandFor read.history.files read.history.session) }
     ensures edit { IfOk result (λ read. LeadsToNamed paths.targets.items read.edit) }
 {

@@ -1,3 +1,4 @@
 pub mod Coming
+pub mod NamesApart
 pub mod Opened
 pub mod StateFacts

@@ -12,7 +12,7 @@ use Rattle.inputs.specs.declared.fault.Fault.TheVariants.{Input}
 use Rattle.inputs.specs.declared.input_files.InputFile.{InputFile}
 use Rattle.inputs.specs.declared.input_files.InputFile.TheVariants.{Requirements, Lock, Journal, Index, Environment, NewRequirements, OldRequirements, Pins}
 use Rattle.files.specs.declared.saved_files.SavedFiles.{SavedFiles}
-use Rattle.files.specs.declared.stopped_save.Beside.{Beside}
+use Rattle.files.specs.declared.beside.Beside.{Beside}
 
 -- a file where it is one of them
 abbrev pub one_where : Bool → InputFile → List InputFile

@@ -1,4 +1,5 @@
 pub mod Beside
+pub mod NamedRewrites
 pub mod RewriteParts
 pub mod Rewrites
 pub mod TargetLocks

@@ -3,9 +3,8 @@
 ghost use Rattle.std.specs.Prelude.{◌≡◌, IfOk};
 ghost use Rattle.files.specs.TargetLocks.{AreGone, has_gone, has_target, is_told_of, locks_gone, tells_of};
 
-use crate::rewrite::GoingFile;
+use crate::beside::Beside;
 use crate::saved_files::{journal_in, names_in};
-use crate::stopped_save::Beside;
 use edits::{Change, Target, TargetName};
 use inputs::{Fault, InputFile};
 use journal::Session;
@@ -19,12 +18,12 @@ pub(crate) fn going_with<R: Files + AllocGlobal>(
     rt: &R,
     dir: &str,
     session: &Session,
-) -> Result<Vec<GoingFile>, Fault>
+) -> Result<Vec<InputFile>, Fault>
     ensures { IfOk result (λ going. AreGone session.now going.items) }
 {
     let names = standing_names(rt, dir)?;
     let targets = session.state().targets();
-    Ok(locks_gone(rt.alloc(), dir, names, targets, session.changes())?)
+    Ok(locks_gone(rt.alloc(), names, targets, session.changes())?)
 }
 
 /// The targets that the journal in its place has. One that can't be read has none.
@@ -39,17 +38,16 @@ fn standing_names<R: Files + AllocGlobal>(rt: &R, dir: &str) -> Result<Seq<Targe
 /// The locks of those of these names whose targets went, of a history with these targets now and these changes.
 fn locks_gone(
     alloc: Global,
-    dir: &str,
     names: Seq<TargetName>,
     targets: &[Target],
     changes: &[Change],
-) -> Result<Vec<GoingFile>, AllocError>
+) -> Result<Vec<InputFile>, AllocError>
     ensures { IfOk result (λ files. files.items ≡ locks_gone targets.now changes.now names) }
 {
     let mut files = Vec::new(alloc);
     for name in names.into_vec() {
         if has_gone(targets, changes, &name) {
-            files.push(GoingFile::of(alloc, dir, InputFile::Lock(name))?)?;
+            files.push(InputFile::Lock(name))?;
         }
     }
     Ok(files)

@@ -3,11 +3,13 @@
 //! The requirements file, the lock of each target and the journal stand in one folder. `SavedFiles` reads them, opens
 //! the history that they stand for, and saves another in their place: each file is written whole beside its place,
 //! and only when all of them stand are the locks of targets that went removed, and they renamed to their places
-//! (`rewrite`). No first save goes through a link to what isn't reqlock's (`links_out`), and no later one overwrites a
+//! (`rewrite`, over `disk`). No first save goes through a link to what isn't reqlock's (`links_out`), and no later one overwrites a
 //! file that isn't of the history (`standing_lock`). What a save that was stopped has left beside is renamed to its
 //! place, or removed (`stopped_save`).
 #![tactic(auto)]
 
+mod beside;
+mod disk;
 pub mod first_inputs;
 mod going_locks;
 pub mod held;
@@ -18,7 +20,8 @@ pub mod saved_history;
 pub mod standing_lock;
 mod stopped_save;
 
+pub use crate::beside::Beside;
 pub use crate::links_out::link_out;
 pub use crate::rewrite::Rewrite;
 pub use crate::saved_files::SavedFiles;
-pub use crate::stopped_save::{Beside, end_left, remove_left};
+pub use crate::stopped_save::{end_left, remove_left};

@@ -1,16 +1,22 @@
 // The files of the folder: the requirements file, the lock of each target, and the journal.
 
+ghost use Rattle.std.specs.BTreeMap.{IsOrdered};
+ghost use Rattle.std.specs.Cmp.Lexicographic.{slice_cmp};
 ghost use Rattle.std.specs.Option.{option_map_or};
+ghost use Rattle.std.specs.Ordering.{nat_cmp};
 ghost use Rattle.std.specs.Prelude.{◌≡◌, ◌⊎◌, ◌++◌, [], IfErr, IfOk, OnOk, Ok, Err, string_bytes, ℕ};
 ghost use Rattle.journal.specs.Opens.{NamesTargets, Opens, ToldBy};
 ghost use Rattle.states.specs.declared.refusal.Refusal.TheVariants.{JournalBroken};
 ghost use Rattle.files.specs.Beside.{StandFor};
 ghost use Rattle.inputs.specs.Faults.{TellsFault};
+ghost use Rattle.files.specs.NamedRewrites.{AreNamedApart};
 ghost use Rattle.files.specs.Rewrites.{going_of, has_lock, is_known, is_left, lock_rewrites, rewrites_of, rewriting};
 ghost use Rattle.inputs.specs.declared.fault.Fault.TheVariants.{OutOfMemory};
 
-use crate::rewrite::{FilePaths, GoingFile, Rewrite, paths_at, paths_of, rewrite_all};
-use crate::stopped_save::{Beside, end_save, remove_left_of_opened};
+use crate::beside::Beside;
+use crate::disk::paths_of;
+use crate::rewrite::{Rewrite, rewrite_all};
+use crate::stopped_save::{end_stopped, remove_left_of_opened};
 use edits::{Refusal, TargetName};
 use inputs::{Fault, InputFile, LockFile, path_of, read_as, read_bytes};
 use journal::{Journal, Saved, Session, Told};
@@ -36,10 +42,13 @@ impl SavedFiles {
 
     /// Reads the files to save others in their place. Where one can't be read, a save may have been
     /// stopped: then that is ended first.
-    pub fn read_to_save<R: Files + AllocGlobal>(rt: &R, dir: &str) -> Result<SavedFiles, Fault> {
+    pub fn read_to_save<R: Files + AllocGlobal>(rt: &R, dir: &str) -> Result<SavedFiles, Fault>
+    where
+        R::File: LockFile,
+    {
         match SavedFiles::read(rt, dir) {
             Err(Fault::Input(file, fault)) => {
-                if end_save(rt, dir)? {
+                if end_stopped(rt, dir)? {
                     SavedFiles::read(rt, dir)
                 } else {
                     Err(Fault::Input(file, fault))
@@ -85,7 +94,9 @@ impl SavedFiles {
     }
 
     /// The bytes of the requirements file.
-    pub fn requirements(&self) -> &[u8] {
+    pub fn requirements(&self) -> &[u8]
+        ensures { result.now ≡ self.now.requirements.items }
+    {
         self.requirements.as_slice()
     }
 
@@ -131,6 +142,8 @@ impl SavedFiles {
         rt: &R,
         dir: &str,
     ) -> Result<(SavedFiles, Session), Fault>
+    where
+        R::File: LockFile,
         ensures { IfOk result (λ opened. StandFor opened.0 opened.1) }
     {
         self.open_over_to_save(rt, dir, None)
@@ -143,6 +156,8 @@ impl SavedFiles {
         dir: &str,
         old: &[u8],
     ) -> Result<(SavedFiles, Session), Fault>
+    where
+        R::File: LockFile,
         ensures { IfOk result (λ opened. Opens old.now opened.0.locks.entries opened.0.journal
             (Ok opened.1)) }
     {
@@ -156,6 +171,8 @@ impl SavedFiles {
         dir: &str,
         requirements: Option<&[u8]>,
     ) -> Result<(SavedFiles, Session), Fault>
+    where
+        R::File: LockFile,
         ensures { IfOk result (λ opened. Opens
             (option_map_or (λ text. text.now) requirements.entry opened.0.requirements.items)
             opened.0.locks.entries opened.0.journal (Ok opened.1)) }
@@ -166,7 +183,7 @@ impl SavedFiles {
                 Ok((self, session))
             }
             Err(Fault::Input(file, fault)) => {
-                if !end_save(rt, dir)? {
+                if !end_stopped(rt, dir)? {
                     return Err(Fault::Input(file, fault));
                 }
                 let files = SavedFiles::read(rt, dir)?;
@@ -191,23 +208,18 @@ impl SavedFiles {
     {
         let saved = session.save(rt.alloc())?;
         let rewrites = self.rewrites(rt.alloc(), &saved)?;
-        let going = self.going(rt.alloc(), dir, &saved)?;
-        rewrite_all(rt, dir, rewrites.as_slice(), going.as_slice())
+        let going = self.going(rt.alloc(), &saved)?;
+        rewrite_all(rt, dir, rewrites.as_slice(), going)
     }
 
     /// The locks that were read, of targets that the saved history hasn't.
-    pub fn going(
-        &self,
-        alloc: Global,
-        dir: &str,
-        saved: &Saved,
-    ) -> Result<Vec<GoingFile>, AllocError>
+    pub fn going(&self, alloc: Global, saved: &Saved) -> Result<Vec<InputFile>, AllocError>
         ensures { IfOk result (λ files. files.items ≡ going_of self.now saved.now) }
     {
         let mut files = Vec::new(alloc);
         for (name, _lock) in &self.locks {
             if !saved.locks.contains_key(name) {
-                files.push(GoingFile::of(alloc, dir, InputFile::Lock(name.clone()?))?)?;
+                files.push(InputFile::Lock(name.clone()?))?;
             }
         }
         Ok(files)
@@ -220,7 +232,8 @@ impl SavedFiles {
         alloc: Global,
         saved: &'a Saved,
     ) -> Result<Vec<Rewrite<'a>>, AllocError>
-        ensures { IfOk result (λ files. files.items ≡ rewrites_of self.now saved.now) }
+        ensures rewrites { IfOk result (λ files. files.items ≡ rewrites_of self.now saved.now) }
+        ensures apart { IfOk result (λ files. AreNamedApart files.items) }
     {
         let mut files = Vec::new(alloc);
         let text = saved.requirements.as_str();
@@ -234,15 +247,17 @@ impl SavedFiles {
         Ok(files)
     }
 
-    /// Puts the locks that are to hold other bytes behind other files: of known targets, or of the others.
+    /// Puts the locks that are to hold other bytes behind other files: of known targets, or of the others. The locks are of
+    /// different targets.
     fn push_locks<'a>(
         &self,
         files: &mut Vec<Rewrite<'a>>,
         locks: &'a BTreeMap<TargetName, Text>,
         are_known: bool,
     ) -> Result<(), AllocError>
-        ensures { OnOk result (files.new.items ≡ files.old.items
+        ensures rewrites { OnOk result (files.new.items ≡ files.old.items
             ++ lock_rewrites self.now are_known locks.now.entries) }
+        ensures rising { OnOk result (IsOrdered (slice_cmp nat_cmp) locks.now) }
     {
         for (name, lock) in locks {
             let text = lock.as_str();
@@ -323,16 +338,6 @@ pub fn journal_in<R: Files + AllocGlobal>(
     Ok(Journal::read(rt.alloc(), Seq::from_vec(bytes))?)
 }
 
-/// The paths of a file of the folder. Nothing where it can have none.
-pub fn paths_in<R: Files + AllocGlobal>(
-    rt: &R,
-    dir: &str,
-    file: InputFile,
-) -> Result<Option<FilePaths>, Fault> {
-    let path = path_of(rt.alloc(), dir, &file)?;
-    paths_at(rt, file, path.as_str())
-}
-
 /// The bytes of a file, in its place or, where it is among these, beside it.
 pub fn read_in<R: Files + AllocGlobal>(
     rt: &R,
@@ -344,7 +349,7 @@ pub fn read_in<R: Files + AllocGlobal>(
     if !beside.has(&file) {
         return read_bytes(rt, file, path.as_str());
     }
-    let paths = paths_of(rt, file.clone()?, path.as_str());
+    let paths = paths_of(rt, path.as_str());
     let paths = read_as(file.clone()?, Text::from_string(path), paths)?;
     read_bytes(rt, file, paths.beside.as_str())
 }

@@ -59,6 +59,8 @@ pub fn history_to_save<R: Files + AllocGlobal>(
     dir: &str,
     index: &str,
 ) -> Result<SavedHistory, Fault>
+where
+    R::File: LockFile,
     ensures { IfOk result (λ saved. StandFor saved.files saved.session) }
 {
     let alloc = rt.alloc();

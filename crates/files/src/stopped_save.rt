@@ -1,123 +1,109 @@
 // A save that was stopped between two files, and what is left of it beside the places of the others.
 
-ghost use Rattle.std.specs.Prelude.{◌≡◌, ◌++◌, [], IfOk, IsSomeAnd, OnOk, map};
+ghost use Rattle.std.specs.Prelude.{◌≡◌, IfOk, IsSomeAnd, None, OnOk};
 ghost use Rattle.journal.specs.Past.{IsAtEnd, IsRedone, IsUndone, present};
-ghost use Rattle.files.specs.Beside.{completed_by, files_of, has, has_lines, has_requirements, one_where};
+ghost use Rattle.files.specs.Beside.{completed_by, has_lines, has_requirements};
 
+use crate::beside::Beside;
+use crate::disk::{Disk, paths_in};
 use crate::going_locks::going_with;
-use crate::rewrite::{FilePaths, GoingFile, remove_all, rename_to_path};
-use crate::saved_files::{SavedFiles, journal_in, names_in, paths_in, read_in};
-use edits::TargetName;
-use inputs::{Fault, InputFile};
+use crate::saved_files::{SavedFiles, journal_in, names_in, read_in};
+use folder::{Left, ReadFault, Whole, clear_names, end_save};
+use inputs::{Fault, InputFile, LockFile};
 use journal::{Command, Journal, Reply, Session};
+use lists::{Seq, Text};
 use resolve::RESOLVER;
-use std::alloc::{AllocError, Global};
-use std::collections::BTreeSet;
+use std::alloc::Global;
 use std::fs;
 use std::rt::Files;
-
-/// Files that are taken from beside their places.
-#[derive(Drop)]
-pub struct Beside {
-    requirements: bool,
-    // the targets whose locks are taken from there
-    locks: BTreeSet<TargetName>,
-    journal: bool,
-}
-
-impl Beside {
-    /// No file.
-    pub fn none(alloc: Global) -> Beside
-        ensures { files_of result ≡ [] }
-    {
-        Beside::of(alloc, false, false)
-    }
-
-    /// No lock, and of the other two those that are told.
-    fn of(alloc: Global, requirements: bool, journal: bool) -> Beside
-        ensures requirements { result.requirements ≡ requirements }
-        ensures locks { result.locks.keys ≡ [] }
-        ensures journal { result.journal ≡ journal }
-    {
-        Beside {
-            requirements,
-            locks: BTreeSet::new(alloc),
-            journal,
-        }
-    }
-
-    /// Whether this file is one of them.
-    pub fn has(&self, file: &InputFile) -> bool
-        ensures { result ≡ has self.now file.now }
-    {
-        match file {
-            InputFile::Requirements => self.requirements,
-            InputFile::Lock(name) => self.locks.contains(name),
-            InputFile::Journal => self.journal,
-            InputFile::Index
-            | InputFile::Environment(_)
-            | InputFile::NewRequirements
-            | InputFile::OldRequirements
-            | InputFile::Pins(_) => false,
-        }
-    }
-
-    /// The files, in the order in which a save renames them to their places.
-    fn files(&self, alloc: Global) -> Result<Vec<InputFile>, AllocError>
-        ensures { IfOk result (λ files. files.items ≡ files_of self.now) }
-    {
-        let mut files = Vec::new(alloc);
-        push_where(&mut files, self.requirements, InputFile::Requirements)?;
-        push_locks(&mut files, &self.locks)?;
-        push_where(&mut files, self.journal, InputFile::Journal)?;
-        Ok(files)
-    }
-}
-
-fn push_where(files: &mut Vec<InputFile>, is_one: bool, file: InputFile) -> Result<(), AllocError>
-    ensures { OnOk result (files.new.items ≡ files.old.items ++ one_where is_one file) }
-{
-    if is_one {
-        files.push(file)?;
-    }
-    Ok(())
-}
-
-fn push_locks(files: &mut Vec<InputFile>, names: &BTreeSet<TargetName>) -> Result<(), AllocError>
-    ensures { OnOk result (files.new.items ≡ files.old.items
-        ++ map (λ name. InputFile.Lock name) names.now.keys) }
-{
-    for name in names.iter() {
-        let name = name.clone()?;
-        files.push(InputFile::Lock(name))?;
-    }
-    Ok(())
-}
 
 // Whether the requirements file and whether the journal is taken from beside its place, in the order in
 // which this is tried: the journal comes last in a save, and is the one that is mostly left.
 const LEFT_BESIDE: [(bool, bool); 4] = [(false, true), (false, false), (true, true), (true, false)];
 
-/// Ends a save that was stopped, where the files open with those in place that it left beside. It
-/// answers whether there was one.
-pub fn end_save<R: Files + AllocGlobal>(rt: &R, dir: &str) -> Result<bool, Fault> {
-    for (requirements, journal) in LEFT_BESIDE {
-        let beside = Beside::of(rt.alloc(), requirements, journal);
-        if let Some(left) = left_with(rt, dir, beside)? {
-            end_with(rt, dir, &left)?;
-            return Ok(true);
+/// What tells of the files on the disk where a save was stopped. As it isn't known what a disk holds, no clause says that
+/// it tells right.
+struct Told {
+    // whether the files in their places stand for a history
+    is_whole: bool,
+}
+
+impl<'a, R: Files + AllocGlobal> Whole<Disk<'a, R>> for Told
+where
+    R::File: LockFile,
+{
+    ghost whole = { λ t files. t.is_whole };
+
+    ghost left = { λ t held. None };
+
+    fn is_whole(&self, _disk: &mut Disk<'a, R>) -> Result<bool, ReadFault> {
+        Ok(self.is_whole)
+    }
+
+    fn left(&self, disk: &mut Disk<'a, R>) -> Result<Option<Left>, ReadFault> {
+        match left_on(disk) {
+            Ok(left) => Ok(left),
+            Err(fault) => Err(disk.unread(fault)),
         }
     }
-    Ok(false)
+}
+
+/// Ends a save that was stopped, where the files, which stand for no history in their places, open with those in place
+/// that it left beside. It answers whether there was one.
+pub fn end_stopped<R: Files + AllocGlobal>(rt: &R, dir: &str) -> Result<bool, Fault>
+where
+    R::File: LockFile,
+{
+    let mut disk = Disk::new(rt, dir);
+    match end_save(&mut disk, &Told { is_whole: false }, &[]) {
+        Ok(is_ended) => Ok(is_ended),
+        Err(fault) => Err(disk.unrepaired(fault)),
+    }
+}
+
+/// What a save that was stopped has left to do on the disk.
+fn left_on<R: Files + AllocGlobal>(disk: &mut Disk<'_, R>) -> Result<Option<Left>, Fault> {
+    let (rt, dir) = (disk.rt, disk.dir);
+    for (requirements, journal) in LEFT_BESIDE {
+        let beside = Beside::of(rt.alloc(), requirements, journal);
+        if let Some((beside, gone)) = left_with(rt, dir, beside)? {
+            let names = names_beside(disk, &beside)?;
+            let mut going = Vec::with_capacity(rt.alloc(), gone.len())?;
+            for file in gone {
+                going.push(disk.add(file)?)?;
+            }
+            let going = Seq::from_vec(going);
+            return Ok(Some(Left { going, names }));
+        }
+    }
+    Ok(None)
+}
+
+/// The names of those of the files that can have paths. All memory for these is taken before a file changes.
+fn names_beside<R: Files + AllocGlobal>(
+    disk: &mut Disk<'_, R>,
+    beside: &Beside,
+) -> Result<Seq<Text>, Fault> {
+    let alloc = disk.rt.alloc();
+    let mut names = Vec::new(alloc);
+    for file in beside.files(alloc)? {
+        if let Some(name) = disk.add_beside(file)? {
+            names.push(name)?;
+        }
+    }
+    Ok(Seq::from_vec(names))
 }
 
 /// Ends a save that was stopped, for a call that doesn't open the files. What opens as it stands stays,
 /// and so does what nothing makes whole. It answers which files can be left beside their places: of the locks, those
 /// that the journal names, in its place and beside it.
-pub fn end_left<R: Files + AllocGlobal>(rt: &R, dir: &str) -> Result<Beside, Fault> {
+pub fn end_left<R: Files + AllocGlobal>(rt: &R, dir: &str) -> Result<Beside, Fault>
+where
+    R::File: LockFile,
+{
     let named = named_files(rt, dir)?;
     if is_any_left(rt, dir, &named)? && does_not_open(rt, dir)? {
-        end_save(rt, dir)?;
+        end_stopped(rt, dir)?;
     }
     Ok(named)
 }
@@ -128,26 +114,46 @@ pub fn remove_left_of_opened<R: Files + AllocGlobal>(
     rt: &R,
     dir: &str,
     session: &Session,
-) -> Result<(), Fault> {
+) -> Result<(), Fault>
+where
+    R::File: LockFile,
+{
     let mut left = Beside::of(rt.alloc(), true, true);
     add_named(rt, dir, &mut left, true)?;
-    remove_left(rt, dir, left, session)
+    let mut disk = Disk::new(rt, dir);
+    let names = names_of_left(&mut disk, left, session)?;
+    match end_save(&mut disk, &Told { is_whole: true }, names.as_slice()) {
+        Ok(_) => Ok(()),
+        Err(fault) => Err(disk.unrepaired(fault)),
+    }
 }
 
 /// Removes these files, and the locks of this history's targets, from beside their places.
 pub fn remove_left<R: Files + AllocGlobal>(
     rt: &R,
     dir: &str,
+    left: Beside,
+    session: &Session,
+) -> Result<(), Fault>
+where
+    R::File: LockFile,
+{
+    let mut disk = Disk::new(rt, dir);
+    let names = names_of_left(&mut disk, left, session)?;
+    clear_names(&mut disk, names.as_slice());
+    Ok(())
+}
+
+/// The names of these files, and of the locks of this history's targets.
+fn names_of_left<R: Files + AllocGlobal>(
+    disk: &mut Disk<'_, R>,
     mut left: Beside,
     session: &Session,
-) -> Result<(), Fault> {
+) -> Result<Seq<Text>, Fault> {
     for target in session.state().targets() {
         left.locks.insert(target.name.clone()?)?;
     }
-    for paths in all_paths(rt, dir, &left)? {
-        let _ = fs::remove_file(rt, paths.beside.as_str());
-    }
-    Ok(())
+    names_beside(disk, &left)
 }
 
 /// Whether a save that was stopped has left a file beside its place.
@@ -158,9 +164,11 @@ pub(crate) fn is_left<R: Files + AllocGlobal>(rt: &R, dir: &str) -> Result<bool,
 
 /// Whether one of these files stands beside its place.
 fn is_any_left<R: Files + AllocGlobal>(rt: &R, dir: &str, named: &Beside) -> Result<bool, Fault> {
-    for paths in all_paths(rt, dir, named)? {
-        if fs::symlink_metadata(rt, paths.beside.as_str()).is_ok() {
-            return Ok(true);
+    for file in named.files(rt.alloc())? {
+        if let Some(paths) = paths_in(rt, dir, &file)? {
+            if fs::symlink_metadata(rt, paths.beside.as_str()).is_ok() {
+                return Ok(true);
+            }
         }
     }
     Ok(false)
@@ -197,48 +205,14 @@ fn add_names(alloc: Global, beside: &mut Beside, journal: &Journal) -> Result<()
     Ok(())
 }
 
-/// What a save that was stopped has left to do.
-#[derive(Drop)]
-struct Left {
-    // the files that are to be renamed to their places
-    beside: Beside,
-    // the locks that are to go before
-    going: Vec<GoingFile>,
-}
-
-fn end_with<R: Files + AllocGlobal>(rt: &R, dir: &str, left: &Left) -> Result<(), Fault> {
-    let all = all_paths(rt, dir, &left.beside)?;
-    remove_all(rt, left.going.as_slice())?;
-    for paths in all.as_slice() {
-        rename_to_path(rt, paths)?;
-    }
-    Ok(())
-}
-
-/// The paths of those of the files that can have some. All memory for them is taken before a file
-/// changes.
-fn all_paths<R: Files + AllocGlobal>(
-    rt: &R,
-    dir: &str,
-    beside: &Beside,
-) -> Result<Vec<FilePaths>, Fault> {
-    let mut found = Vec::new(rt.alloc());
-    for file in beside.files(rt.alloc())? {
-        if let Some(paths) = paths_in(rt, dir, file)? {
-            found.push(paths)?;
-        }
-    }
-    Ok(found)
-}
-
-/// What a save left to do, where the files open with these from beside and with each lock that doesn't
-/// fit in its place. A requirements file gives way only where its history has it: one that was changed by
-/// hand stays.
+/// The files that a save left to be renamed, and the locks that are to go before, where the files open with these from
+/// beside and with each lock that doesn't fit in its place. A requirements file gives way only where its history has it:
+/// one that was changed by hand stays.
 fn left_with<R: Files + AllocGlobal>(
     rt: &R,
     dir: &str,
     beside: Beside,
-) -> Result<Option<Left>, Fault> {
+) -> Result<Option<(Beside, Vec<InputFile>)>, Fault> {
     let Some((beside, session)) = completed(rt, dir, beside)? else {
         return Ok(None);
     };
@@ -253,7 +227,7 @@ fn left_with<R: Files + AllocGlobal>(
             return Ok(None);
         }
     }
-    Ok(Some(Left { beside, going }))
+    Ok(Some((beside, going)))
 }
 
 /// The files with which the folder opens, and what it stands for with them. A lock that is told not to
