@@ -10,11 +10,11 @@ from typing import TYPE_CHECKING
 from reqlock_tools.folder_lock import alone_in
 from reqlock_tools.refusal import Refusal, shown, speaker
 from reqlock_tools.rql.faults import NETWORK, STOPPED, SettingsFault
-from reqlock_tools.rql.sync_installed import Environment, is_own, making, python_in, read_environment
+from reqlock_tools.rql.sync_installed import VirtualEnvironment, is_own, making, python_in, read_environment
 from reqlock_tools.rql.sync_locked import Locked, read_locked
 from reqlock_tools.rql.sync_netrc import known_credentials, netrc_file, netrc_text, refuse_elsewhere
 from reqlock_tools.rql.sync_pip import Pip, mended_end, pip_of, variables_for
-from reqlock_tools.rql.sync_plan import Plan, is_as_locked, plan_of
+from reqlock_tools.rql.sync_plan import SyncPlan, is_as_locked, plan_of
 from reqlock_tools.rql.sync_targets import chosen_target
 from reqlock_tools.simple.plan import IndexAddress
 from reqlock_tools.versions import is_name, normal
@@ -107,7 +107,7 @@ def venv_of(asked: Sync) -> Path:
     return place
 
 
-def tell(asked: Sync, plan: Plan) -> None:
+def tell(asked: Sync, plan: SyncPlan) -> None:
     """Prints what is changed, and tells what stays though it isn't locked."""
     for line in plan.lines() or ["nothing to do"]:
         print(shown(line), flush=True)
@@ -116,7 +116,7 @@ def tell(asked: Sync, plan: Plan) -> None:
             say(f"{installed.name} {installed.version}".rstrip() + f" stays: {why}")
 
 
-def done(asked: Sync, environment: Environment, locked: dict[str, Locked], plan: Plan) -> int:
+def done(asked: Sync, environment: VirtualEnvironment, locked: dict[str, Locked], plan: SyncPlan) -> int:
     """The status of doing what is planned."""
     installs = [package for package, _ in plan.installs]
     if asked.is_offline and installs:
@@ -135,7 +135,7 @@ def done(asked: Sync, environment: Environment, locked: dict[str, Locked], plan:
     return status and failed(status)
 
 
-def text_for(asked: Sync, environment: Environment, installs: list[Locked]) -> str:
+def text_for(asked: Sync, environment: VirtualEnvironment, installs: list[Locked]) -> str:
     """The netrc file for pip; empty where nothing is fetched."""
     if not installs:
         return ""
@@ -151,7 +151,7 @@ def tell_built(asked: Sync, installs: list[Locked]) -> None:
         say(f"{', '.join(names)}: built here of what is locked; what the build itself needs, pip takes of the index, unlocked")
 
 
-def left(environment: Environment, locked: dict[str, Locked], status: int) -> int:
+def left(environment: VirtualEnvironment, locked: dict[str, Locked], status: int) -> int:
     """Tells what is there after pip failed."""
     has = read_environment(environment.place).installed
     count = sum(1 for name, package in locked.items() if name in has and is_as_locked(has[name], package))

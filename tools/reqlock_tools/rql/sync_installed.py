@@ -39,7 +39,7 @@ class Installed:
 
 
 @dataclass(frozen=True)
-class Environment:
+class VirtualEnvironment:
     """A virtual environment: its Python, what that tells of itself, and what is installed, by name."""
 
     place: Path
@@ -77,7 +77,7 @@ def python_in(place: Path) -> Path:
     return python
 
 
-def read_environment(place: Path) -> Environment:
+def read_environment(place: Path) -> VirtualEnvironment:
     """Asks the Python of an environment what it is and has. It sees neither the folder in which the call is made nor variables for
     Pythons."""
     python = python_in(place)
@@ -96,7 +96,7 @@ def read_environment(place: Path) -> Environment:
         if not path.startswith(prefix + os.sep):
             raise SettingsFault(f"{place}: a link leads from it to {path}: {making(place, '--clear')} makes it anew")
     # (of two of one name the first is the one that is imported)
-    return Environment(place, python, environment, {distribution.name: distribution for distribution in reversed(distributions)})
+    return VirtualEnvironment(place, python, environment, {distribution.name: distribution for distribution in reversed(distributions)})
 
 
 def installed_of(told: Node) -> Installed:

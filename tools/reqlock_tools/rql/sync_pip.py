@@ -20,7 +20,7 @@ from types import FrameType
 from reqlock_tools.rql.calls import tell_call
 from reqlock_tools.rql.faults import STOPPED, SettingsFault
 from reqlock_tools.rql.pip_files import may_be_configured
-from reqlock_tools.rql.sync_installed import Environment
+from reqlock_tools.rql.sync_installed import VirtualEnvironment
 from reqlock_tools.rql.sync_locked import Locked
 from reqlock_tools.simple.plan import IndexAddress
 from reqlock_tools.versions import read_version, version_of
@@ -68,7 +68,7 @@ def asked(command: Sequence[str]) -> str | None:
     return done.stdout
 
 
-def pip_of(environment: Environment) -> tuple[str, ...]:
+def pip_of(environment: VirtualEnvironment) -> tuple[str, ...]:
     """How pip is called: that of the environment, or where it has none that of this Python, which works in the environment. Neither takes
     modules of the folder in which the call is made."""
     own = (str(environment.python), "-I", "-m", "pip")
@@ -81,7 +81,7 @@ def pip_of(environment: Environment) -> tuple[str, ...]:
     return (*other, "--python", str(environment.python))
 
 
-def heeds_netrc(environment: Environment) -> bool:
+def heeds_netrc(environment: VirtualEnvironment) -> bool:
     """Whether the pip that is called takes the place of a netrc file from a variable. An older one looks into the home alone."""
     pip = environment.installed.get("pip")
     version = read_version(pip.version) if pip is not None else None
@@ -92,7 +92,7 @@ def variable_of(option: str) -> str:
     return f"PIP_{option.upper().replace('-', '_')}"
 
 
-def variables_for(pip: Sequence[str], environment: Environment, netrc: Path) -> dict[str, str]:
+def variables_for(pip: Sequence[str], environment: VirtualEnvironment, netrc: Path) -> dict[str, str]:
     """The variables of a call of pip. Of its configuration the way to the index alone is taken over: of its files, and of variables, which
     count more."""
     variables = {name: value for name, value in os.environ.items() if not name.startswith(("PIP_", "PYTHON"))}

@@ -5,7 +5,7 @@ from dataclasses import dataclass
 
 from reqlock_tools.markers import Markers
 from reqlock_tools.requirements import need_of
-from reqlock_tools.rql.sync_installed import Environment, Installed
+from reqlock_tools.rql.sync_installed import Installed, VirtualEnvironment
 from reqlock_tools.rql.sync_locked import Locked
 from reqlock_tools.versions import read_version
 
@@ -16,7 +16,7 @@ OWN = "reqlock"
 
 
 @dataclass(frozen=True)
-class Plan:
+class SyncPlan:
     """What is installed, with the version that stands there, where one does; what is taken out; and why the rest stays."""
 
     installs: tuple[tuple[Locked, Installed | None], ...]
@@ -48,7 +48,7 @@ def is_as_locked(installed: Installed, locked: Locked) -> bool:
     return installed.origin is None or installed.origin.sha256 in locked.digests
 
 
-def plan_of(environment: Environment, locked: Mapping[str, Locked], keep: frozenset[str], is_exact: bool) -> Plan:
+def plan_of(environment: VirtualEnvironment, locked: Mapping[str, Locked], keep: frozenset[str], is_exact: bool) -> SyncPlan:
     """What an environment needs so that it has what is locked and nothing else."""
     installs = []
     for name, package in sorted(locked.items()):
@@ -65,7 +65,7 @@ def plan_of(environment: Environment, locked: Mapping[str, Locked], keep: frozen
             removals.append(other)
         else:
             stays.append((other, why))
-    return Plan(tuple(installs), tuple(removals), tuple(stays))
+    return SyncPlan(tuple(installs), tuple(removals), tuple(stays))
 
 
 def reason_to_stay(installed: Installed, keep: frozenset[str], needed: frozenset[str], is_exact: bool) -> str | None:
@@ -79,7 +79,7 @@ def reason_to_stay(installed: Installed, keep: frozenset[str], needed: frozenset
     return None
 
 
-def own_needs(environment: Environment) -> frozenset[str]:
+def own_needs(environment: VirtualEnvironment) -> frozenset[str]:
     """rql and all that it needs, where it is installed in the environment; of its own extras each counts."""
     own = environment.installed.get(OWN)
     if own is None:

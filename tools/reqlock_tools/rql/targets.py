@@ -28,7 +28,7 @@ def run_env(project: Project, request: EnvRequest) -> int:
         return 0
     kept = Kept(project)
     with kept.locked():
-        return Change(project, kept, request).run()
+        return EnvironmentsChange(project, kept, request).run()
 
 
 def listed(settings: Settings) -> list[str]:
@@ -40,7 +40,7 @@ def listed(settings: Settings) -> list[str]:
     return [f"{name:<{widths[0]}}  {python:<{widths[1]}}  {platform}" for name, python, platform in rows]
 
 
-class Change:
+class EnvironmentsChange:
     """A change of the environments in the settings, which the history follows as one step."""
 
     def __init__(self, project: Project, kept: Kept, request: EnvRequest) -> None:

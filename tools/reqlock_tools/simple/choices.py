@@ -136,7 +136,7 @@ class Choices:
         return is_of(release, self.locked.get(name, set()))
 
     def within_bounds(self, name: str, releases: list[Release], left: Left) -> list[Release]:
-        """The releases that no constraint leaves out, and a locked one neither."""
+        """The releases that no constraint leaves out."""
         for file, bound in self.bounds.of(name):
             releases = without_releases(releases, partial(is_outside, bound, name), why_out(file), left)
         return releases

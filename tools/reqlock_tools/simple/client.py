@@ -36,7 +36,7 @@ HINT_OF_PROXY = "; the proxy wants user and password, as HTTPS_PROXY=http://USER
 
 
 @dataclass
-class Answer:
+class Response:
     """The answer of a server. The URL is the last one that redirects led to; `body` is empty where it went into a file."""
 
     url: str
@@ -46,7 +46,7 @@ class Answer:
     body: bytes
 
 
-class Request(NamedTuple):
+class UrlRequest(NamedTuple):
     """What is asked of a URL. The body of an answer of status 200 goes into `into`, where it is given; `most` names its limit."""
 
     url: str
@@ -147,11 +147,11 @@ class Client:
     def ask(
         self, url: str, headers: dict[str, str] | None = None, method: str = "GET", into: IO[bytes] | None = None,
         most: str = "page",
-    ) -> Answer:
+    ) -> Response:
         """The answer behind redirects. Where `into` is given, the body of an answer of status 200 goes into that file. `most` names
         the limit of the body."""
         for _ in range(MOST_REDIRECTS):
-            answer = self.tried(Request(url, headers or {}, method, into, most))
+            answer = self.tried(UrlRequest(url, headers or {}, method, into, most))
             place = answer.headers.get("Location")
             if answer.status not in REDIRECTS or place is None:
                 return answer
@@ -161,13 +161,13 @@ class Client:
             url = following
         raise Unfetched(f"{url}: over {MOST_REDIRECTS} redirects led to it")
 
-    def wanted(self, answer: Answer) -> Answer:
+    def wanted(self, answer: Response) -> Response:
         """The answer, which must be one of status 200, 206 or 304."""
         if answer.status in (200, 206, 304):
             return answer
         raise Unfetched(f"{answer.url}: {answer.status} {answer.reason}{self.hint(answer)}")
 
-    def hint(self, answer: Answer) -> str:
+    def hint(self, answer: Response) -> str:
         """What to do about an answer that isn't wanted; nothing where nobody knows."""
         whose = {401: "user and password", 403: "the user and password of one who may read it"}.get(answer.status)
         if whose is not None:
@@ -176,7 +176,7 @@ class Client:
 
     # One URL
 
-    def tried(self, request: Request) -> Answer:
+    def tried(self, request: UrlRequest) -> Response:
         """The answer of one URL, tried again after pauses that grow."""
         url, address = request.url, address_of(request.url)
         self.tell_plain(address)
@@ -228,7 +228,7 @@ class Client:
                 self.nobody[address.origin] = fault
             raise kind(f"{url}: {fault}; is the address right?") from None
 
-    def admitted(self, address: Address, request: Request) -> tuple[Answer, float | None]:
+    def admitted(self, address: Address, request: UrlRequest) -> tuple[Response, float | None]:
         """The answer to a request, asked once more where it wants a user and keyring knows one."""
         used = self.credentials.get(address)
         exchanged = self.exchanged(address, request)
@@ -236,7 +236,7 @@ class Client:
             return self.exchanged(address, request)
         return exchanged
 
-    def exchanged(self, address: Address, request: Request) -> tuple[Answer, float | None]:
+    def exchanged(self, address: Address, request: UrlRequest) -> tuple[Response, float | None]:
         """The answer to one request, and the pause that it asks for."""
         if self.watch.stopped.is_set():
             raise Stopped
@@ -264,7 +264,7 @@ class Client:
         if is_whole and request.into is None and request.method != "HEAD":
             body = unpacked(request.url, body, coding, self.limits, request.most)
         pause = self.pause_asked(response) if response.status in TRY_AGAIN else None
-        return Answer(request.url, response.status, response.reason or "", response.headers, body), pause
+        return Response(request.url, response.status, response.reason or "", response.headers, body), pause
 
     def received(self, response: "HTTPResponse", into: IO[bytes] | None, most: str) -> bytes:
         """The body of a response, which must be whole. It goes into a file where one is given."""

@@ -15,7 +15,7 @@ from reqlock_tools.limits import Limits
 from reqlock_tools.refusal import Refusal
 from reqlock_tools.simple.addresses import Unfetched
 from reqlock_tools.simple.cache import Beside, Cache
-from reqlock_tools.simple.client import Answer, Client
+from reqlock_tools.simple.client import Client, Response
 from reqlock_tools.simple.pages import Link
 from reqlock_tools.simple.ranges import NoRanges, RangedFile
 
@@ -141,7 +141,7 @@ class MetadataReader:
         """Reads a wheel by parts. A server that doesn't know parts answers with the whole, which then is in the file."""
         url = link.file.url
 
-        def ask(asked: str) -> Answer:
+        def ask(asked: str) -> Response:
             answer = self.client.ask(url, {"Range": asked}, into=file, most="file")
             if answer.status in ABSENT:
                 raise FileNotFoundError

@@ -13,7 +13,7 @@ from reqlock_tools.simple import known
 from reqlock_tools.simple.addresses import Unfetched, plain_url, without_passwords
 from reqlock_tools.simple.cache import Beside, Cache
 from reqlock_tools.simple.choices import Choices, Chosen
-from reqlock_tools.simple.client import Answer, Client
+from reqlock_tools.simple.client import Client, Response
 from reqlock_tools.simple.fresh import freshness, is_fresh
 from reqlock_tools.simple.metadata import ABSENT, Absent, MetadataReader
 from reqlock_tools.simple.pages import ACCEPT, Link, read_page
@@ -121,7 +121,7 @@ class Index:
         self.cache.put("page", url, told | freshness(answer.headers), body)
         return told, body
 
-    def still(self, url: str, kept: tuple[Beside, bytes], answer: Answer) -> tuple[Beside, bytes]:
+    def still(self, url: str, kept: tuple[Beside, bytes], answer: Response) -> tuple[Beside, bytes]:
         """A page that is still as it was, which is fresh again as long as the answer says."""
         more = freshness(answer.headers)
         if more:

@@ -7,7 +7,7 @@ from typing import Any
 
 from reqlock_tools.files import LARGEST_SIZE
 from reqlock_tools.limits import Limits
-from reqlock_tools.simple.client import Answer
+from reqlock_tools.simple.client import Response
 from reqlock_tools.sought_file import SoughtFile
 
 LEAST_FETCHED = 2**15
@@ -21,7 +21,7 @@ class NoRanges(Exception):
 class RangedFile(SoughtFile):
     """A file that can be read and sought. `ask` gives the answer to a request with the header Range."""
 
-    def __init__(self, url: str, ask: Callable[[str], Answer], limits: Limits) -> None:
+    def __init__(self, url: str, ask: Callable[[str], Response], limits: Limits) -> None:
         super().__init__()
         self.url, self.ask, self.limits = url, ask, limits
         self.pieces: list[tuple[int, bytes]] = []
