@@ -7,6 +7,7 @@ use crate::read_edit::{ReadEdit, UnsavedEdit};
 use crate::replacement::{replaced, replaced_to_save};
 use crate::retargeting::{new_target_paths, retargeted, retargeted_to_save};
 use command_line::request::{AskedEdit, EditOptions};
+use files::HistoryFolder;
 use files::saved_history::{SavedHistory, history_to_save, session_over};
 use inputs::LockFile;
 use inputs::target_files::TargetPath;
@@ -17,16 +18,14 @@ use stops::Stop;
 /// Reads what an edit needs, to save a history in the place of the one that it is made in. `targets` are those that take
 /// the place of the present ones, where it asks for some. A save that was stopped is ended first. All files are read
 /// before a fault in one of them is told.
-pub fn asked_edit_to_save<R: Files + AllocGlobal, I: Read + Drop>(
+pub fn asked_edit_to_save<R: Files + AllocGlobal, F: HistoryFolder, I: Read + Drop>(
     rt: &R,
-    dir: &str,
+    folder: &mut F,
     asked: AskedEdit<'_>,
     options: EditOptions<'_>,
     targets: Vec<TargetPath>,
     input: I,
 ) -> Result<ReadEdit, Stop>
-where
-    R::File: LockFile,
     ensures history { IfOk result
         (λ read. IsHistoryFor asked.entry read.history.files read.history.session) }
     ensures edit { IfOk result (λ read. IsMadeOf asked.entry targets.items
@@ -34,13 +33,19 @@ where
 {
     match asked {
         AskedEdit::Typed(edit) => {
-            let history = history_to_save(rt, dir, options.index)?;
+            let history = history_to_save(rt, folder, options.index)?;
             Ok(ReadEdit { history, edit })
         }
-        AskedEdit::Replace(replacement) => replaced_to_save(rt, dir, &replacement, options, input),
+        AskedEdit::Replace(replacement) => replaced_to_save(
+            rt,
+            folder,
+            &replacement,
+            options,
+            input,
+        ),
         AskedEdit::Retarget(given) => {
             let paths = new_target_paths(rt.alloc(), &given, targets)?;
-            retargeted_to_save(rt, dir, paths, options, input)
+            retargeted_to_save(rt, folder, paths, options, input)
         }
     }
 }

@@ -9,8 +9,8 @@ ghost use Rattle.inputs.specs.PinsFiles.{ArePinsFor, given_by, without_lock};
 use crate::read_edit::ReadEdit;
 use command_line::request::{EditOptions, NewLines, Replacement};
 use edits::{Edit, Refusal, ReqFile, Target, TargetPins, with_line_exchanged};
-use files::SavedFiles;
 use files::saved_history::{SavedHistory, saved_files};
+use files::{HistoryFolder, SavedFiles};
 use inputs::handed_in::HandedIn;
 use inputs::named_file::NamedBytes;
 use inputs::pins_files::{LentTarget, pins_of, pins_paths, read_pins};
@@ -35,23 +35,21 @@ pub enum LinesRead<'a> {
 
 /// Reads what a replacement needs, to save a history in the place of the one that it is made in. A save that was
 /// stopped is ended first. All files are read before a fault in one of them is told.
-pub(crate) fn replaced_to_save<R: Files + AllocGlobal, I: Read + Drop>(
+pub(crate) fn replaced_to_save<R: Files + AllocGlobal, F: HistoryFolder, I: Read + Drop>(
     rt: &R,
-    dir: &str,
+    folder: &mut F,
     replacement: &Replacement<'_>,
     options: EditOptions<'_>,
     input: I,
 ) -> Result<ReadEdit, Stop>
-where
-    R::File: LockFile,
     ensures history { IfOk result (λ read. IsReplaced replacement.now.lines read.history.files
         read.history.session) }
     ensures edit { IfOk result (λ read. IsReplacement replacement.now.lines read.history.files
         read.history.session read.edit) }
 {
-    let files = SavedFiles::read_to_save(rt, dir)?;
+    let files = SavedFiles::read_to_save(&mut *folder)?;
     let read = read_handed(rt, replacement, options, input)?;
-    let (files, session) = opened_to_save(rt, dir, files, &read.lines)?;
+    let (files, session) = opened_to_save(folder, files, &read.lines)?;
     Ok(made_of(rt.alloc(), files, session, read)?)
 }
 
@@ -79,19 +77,16 @@ where
 
 /// The history that files open as, to save another in its place. With the old file in the place of the folder's, if one
 /// was read.
-fn opened_to_save<R: Files + AllocGlobal>(
-    rt: &R,
-    dir: &str,
+fn opened_to_save<F: HistoryFolder>(
+    folder: &mut F,
     files: SavedFiles,
     lines: &LinesRead<'_>,
 ) -> Result<(SavedFiles, Session), Fault>
-where
-    R::File: LockFile,
     ensures { IfOk result (λ opened. IsOpened lines.now opened.0 opened.1) }
 {
     match lines {
-        LinesRead::Old(old) => files.open_hand_changed(rt, dir, old.as_slice()),
-        LinesRead::New(_) | LinesRead::Line(_, _) => files.open_to_save(rt, dir),
+        LinesRead::Old(old) => files.open_hand_changed(folder, old.as_slice()),
+        LinesRead::New(_) | LinesRead::Line(_, _) => files.open_to_save(folder),
     }
 }
 

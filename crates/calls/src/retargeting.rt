@@ -8,9 +8,9 @@ ghost use Rattle.inputs.specs.TargetFiles.{names_of, names_read};
 use crate::read_edit::ReadEdit;
 use command_line::request::{EditOptions, NewTargets};
 use edits::{Edit, FirstTargets, TargetName};
-use files::SavedFiles;
 use files::first_inputs::targets_with_pins;
 use files::saved_history::{SavedHistory, saved_files};
+use files::{HistoryFolder, SavedFiles};
 use inputs::handed_in::HandedIn;
 use inputs::named_file::{NamedBytes, NamedPath};
 use inputs::pins_files::{pins_paths, read_pins};
@@ -45,21 +45,19 @@ pub(crate) fn new_target_paths(
 
 /// Reads what a retarget needs, to save a history in the place of the one that it is made in. A save that was stopped is
 /// ended first. All files are read before a fault in one of them is told.
-pub(crate) fn retargeted_to_save<R: Files + AllocGlobal, I: Read + Drop>(
+pub(crate) fn retargeted_to_save<R: Files + AllocGlobal, F: HistoryFolder, I: Read + Drop>(
     rt: &R,
-    dir: &str,
+    folder: &mut F,
     paths: NewTargetPaths,
     options: EditOptions<'_>,
     input: I,
 ) -> Result<ReadEdit, Stop>
-where
-    R::File: LockFile,
     ensures history { IfOk result (λ read. StandFor read.history.files read.history.session) }
     ensures edit { IfOk result (λ read. LeadsToNamed paths.targets.items read.edit) }
 {
-    let files = SavedFiles::read_to_save(rt, dir)?;
+    let files = SavedFiles::read_to_save(&mut *folder)?;
     let read = read_handed(rt, paths, options, input)?;
-    let (files, session) = files.open_to_save(rt, dir)?;
+    let (files, session) = files.open_to_save(folder)?;
     Ok(made_of(rt.alloc(), files, session, read)?)
 }
 

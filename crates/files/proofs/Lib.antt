@@ -1,4 +1,11 @@
 pub mod Coming
+pub mod FolderRuns
+pub mod HeldFiles
 pub mod NamesApart
 pub mod Opened
+pub mod RewriteRuns
+pub mod SavedInPlace
+pub mod StandingFiles
 pub mod StateFacts
+pub mod Unread
+pub mod WrittenOrGone

@@ -35,7 +35,7 @@ empty-apart b rest same =
     omega arith
 
 -- targets whose locks have one name are one
-one-target : (a b : List ℕ) → file_name a ≡ file_name b → a ≡ b
+pub one-target : (a b : List ℕ) → file_name a ≡ file_name b → a ≡ b
 one-target [] [] same = refl
 one-target [] (b ∷ bs) same = absurd (empty-apart b bs same)
 one-target (a ∷ more) [] same = absurd (empty-apart a more (sym same))
@@ -50,29 +50,29 @@ first-byte (b ∷ rest) = refl
 not-both : (byte : ℕ) → byte ≡ 112 → byte ≡ 114 → ⊥
 not-both byte one other = omega arith
 
-requirements-apart : (target : List ℕ) → file_name target ≡ codes "requirements.txt" → ⊥
+pub requirements-apart : (target : List ℕ) → file_name target ≡ codes "requirements.txt" → ⊥
 requirements-apart target same = not-both (get_or (file_name target) 0 0) (first-byte target) (ap (λ (name : List ℕ). get_or name 0 0) same)
 
-journal-apart : (target : List ℕ) → file_name target ≡ codes "reqlock.journal" → ⊥
+pub journal-apart : (target : List ℕ) → file_name target ≡ codes "reqlock.journal" → ⊥
 journal-apart target same = not-both (get_or (file_name target) 0 0) (first-byte target) (ap (λ (name : List ℕ). get_or name 0 0) same)
 
 -- ---- a file in front of others
 
-abbrev names : List RewriteParts → List (List ℕ)
+abbrev pub names : List RewriteParts → List (List ℕ)
 names rewrites = names_of (map new_file rewrites)
 
-either-false : (a b : Bool) → a ≡ false → b ≡ false → a || b ≡ false
+pub either-false : (a b : Bool) → a ≡ false → b ≡ false → a || b ≡ false
 either-false true b is other = absurd (cc is)
 either-false false b is other = other
 
-differs : (a b : List ℕ) → (a ≡ b → ⊥) → bytes_eq a b ≡ false
+pub differs : (a b : List ℕ) → (a ≡ b → ⊥) → bytes_eq a b ≡ false
 differs a b apart = elim (cases_Bool (bytes_eq a b)) [
   | inl same ↦ absurd (apart ((bytes_eq-Decides a b).0 same))
   | inr other ↦ other
 ]
 
 -- a name that others don't have
-new-name : (is_same : Bool) (file : InputFile) (bytes : List ℕ) (rest : List RewriteParts) (name : List ℕ) → (is_same ≡ false → name_of file ≡ name → ⊥) → is_among (names rest) name ≡ false
+pub new-name : (is_same : Bool) (file : InputFile) (bytes : List ℕ) (rest : List RewriteParts) (name : List ℕ) → (is_same ≡ false → name_of file ≡ name → ⊥) → is_among (names rest) name ≡ false
     → is_among (names (rewriting is_same file bytes ++ rest)) name ≡ false
 new-name true file bytes rest name apart other = other
 new-name false file bytes rest name apart other = either-false (bytes_eq (name_of file) name) (is_among (names rest) name) (differs (name_of file) name (apart refl)) other
@@ -84,14 +84,14 @@ in-front false file bytes rest new apart = (new refl, apart)
 
 -- ---- locks in front of others
 
-abbrev locks_of : (List ℕ × List ℕ → Bool) → List (List ℕ × List ℕ) → List RewriteParts
+abbrev pub locks_of : (List ℕ × List ℕ → Bool) → List (List ℕ × List ℕ) → List RewriteParts
 locks_of is_left locks = flat_map (λ lock. rewriting (is_left lock) (Lock lock.0) lock.1) locks
 
 -- none of the locks that aren't left has this name
-abbrev AreOther : (List ℕ × List ℕ → Bool) → List ℕ → List (List ℕ × List ℕ) → Type 0
+abbrev pub AreOther : (List ℕ × List ℕ → Bool) → List ℕ → List (List ℕ × List ℕ) → Type 0
 AreOther is_left name locks = AllByRecursion (λ lock. is_left lock ≡ false → file_name lock.0 ≡ name → ⊥) locks
 
-others : (is_left : List ℕ × List ℕ → Bool) (name : List ℕ) (locks : List (List ℕ × List ℕ)) → ((lock : List ℕ × List ℕ) → is_left lock ≡ false → file_name lock.0 ≡ name → ⊥) → AreOther is_left name locks
+pub others : (is_left : List ℕ × List ℕ → Bool) (name : List ℕ) (locks : List (List ℕ × List ℕ)) → ((lock : List ℕ × List ℕ) → is_left lock ≡ false → file_name lock.0 ≡ name → ⊥) → AreOther is_left name locks
 others is_left name [] apart = tt
 others is_left name (lock ∷ locks) apart = (apart lock, others is_left name locks apart)
 
@@ -103,7 +103,7 @@ others-above is_left target (lock ∷ locks) above = (
   others-above is_left target locks above.1,
 )
 
-new-name_of_locks : (is_left : List ℕ × List ℕ → Bool) (locks : List (List ℕ × List ℕ)) (rest : List RewriteParts) (name : List ℕ) → AreOther is_left name locks → is_among (names rest) name ≡ false
+pub new-name_of_locks : (is_left : List ℕ × List ℕ → Bool) (locks : List (List ℕ × List ℕ)) (rest : List RewriteParts) (name : List ℕ) → AreOther is_left name locks → is_among (names rest) name ≡ false
     → is_among (names (locks_of is_left locks ++ rest)) name ≡ false
 new-name_of_locks is_left [] rest name others other = other
 new-name_of_locks is_left (lock ∷ locks) rest name others other =

@@ -1,9 +1,12 @@
 -- Files that stand beside their places, and the history that the files of a folder stand for. All of it is reqlock's own rule.
 use Rattle.std.specs.Prelude.{ℕ, ◌++◌, Bool, true, false, List, [], ◌∷◌, map, Option, Some, None, Result, Ok, Err}
 use Rattle.std.specs.Cmp.Lexicographic.{slice_cmp}
-use Rattle.std.specs.List.{concat, list_any}
+use Rattle.std.specs.List.{concat, flat_map, list_any}
 use Rattle.std.specs.Ordering.{is_eq, nat_cmp}
 use Rattle.std.specs.Str.{bytes_eq}
+use Rattle.folder.specs.Held.{Held}
+use Rattle.folder.specs.Repairs.{AreBeside}
+use Rattle.inputs.specs.FileNames.{name_of}
 use Rattle.journal.specs.Values.{State}
 use Rattle.journal.specs.Changes.{HistoryParts}
 use Rattle.journal.specs.Opens.{Opens}
@@ -34,6 +37,15 @@ has beside NewRequirements = false
 has beside OldRequirements = false
 has beside (Pins name) = false
 
+-- those of some files that were taken from beside their places, in the order in which a save renames them
+abbrev pub taken_from : Beside → SavedFiles → List InputFile
+taken_from beside files =
+    one_where beside.requirements Requirements ++ flat_map (λ lock. one_where (has beside (Lock lock.0)) (Lock lock.0)) files.locks.entries ++ one_where beside.journal Journal
+
+-- something stands beside the place of each of these files when its turn to be renamed comes
+abbrev pub FilesStandBeside : List InputFile → Held → Type 0
+FilesStandBeside files held = AreBeside (map (λ file. name_of file) files) held
+
 -- these files stand for this history
 abbrev pub StandFor : SavedFiles → HistoryParts → Type 0
 StandFor files history = Opens files.requirements.items files.locks.entries files.journal (Ok history)
@@ -51,7 +63,7 @@ abbrev pub has_requirements : List State → List ℕ → Bool
 has_requirements states requirements = list_any (has_lines requirements) states
 
 -- these files with the history that they opened as; none where a file is at fault
-abbrev pub completed_by : {A : Type 0} → Beside → Result A Fault → Result (Option (Beside × A)) Fault
-completed_by beside (Ok opened) = Ok (Some (beside, opened))
+abbrev pub completed_by : {A B : Type 0} → Beside → Result (A × B) Fault → Result (Option (Beside × A × B)) Fault
+completed_by beside (Ok opened) = Ok (Some (beside, opened.0, opened.1))
 completed_by beside (Err (Input file fault)) = Ok None
 completed_by beside (Err fault) = Err fault

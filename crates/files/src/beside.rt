@@ -66,7 +66,12 @@ impl Beside {
     }
 }
 
-fn push_where(files: &mut Vec<InputFile>, is_one: bool, file: InputFile) -> Result<(), AllocError>
+/// Puts a file behind others where it is one of those.
+pub(crate) fn push_where(
+    files: &mut Vec<InputFile>,
+    is_one: bool,
+    file: InputFile,
+) -> Result<(), AllocError>
     ensures { OnOk result (files.new.items ≡ files.old.items ++ one_where is_one file) }
 {
     if is_one {

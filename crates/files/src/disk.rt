@@ -1,13 +1,16 @@
 // The folder of a history on the disk, so that a save and its repair are done over it: each file is written whole beside its
 // place, under its name and `.new`, and renamed to its path.
 
-ghost use Rattle.std.specs.Prelude.{◌≡◌, IfOk, None};
+ghost use Rattle.std.specs.Prelude.{◌≡◌, IfOk, None, ⊤};
 ghost use Rattle.inputs.specs.FileNames.{name_of};
+ghost use Rattle.files.specs.Places.{IsUnsaved};
 
-use folder::{Folder, ReadFault, RepairFault, WriteFault};
-use inputs::{Fault, InputFile, LockFile, passed_over, path_of, sync_folder, unwritten};
+use crate::history_folder::HistoryFolder;
+use crate::rewrite::name_of;
+use folder::{Folder, WriteFault};
+use inputs::{Fault, InputFile, LockFile, passed_over, path_of, read_as, read_bytes, sync_folder};
 use lists::Text;
-use std::alloc::AllocError;
+use std::alloc::{AllocError, Global};
 use std::fs::{File, Metadata, OpenFile, OpenOptions};
 use std::io::{ErrorKind, Write};
 use std::os::unix::fs::MetadataExt;
@@ -19,7 +22,7 @@ use std::{fs, io};
 #[derive(Drop)]
 pub struct FilePaths {
     path: String,
-    pub beside: String,
+    beside: String,
 }
 
 /// A file that calls of the folder may name.
@@ -35,11 +38,11 @@ struct Known {
 
 /// The folder of a history on the disk. What it holds isn't known.
 pub struct Disk<'a, R> {
-    pub rt: &'a R,
-    pub dir: &'a str,
+    rt: &'a R,
+    dir: &'a str,
     known: Vec<Known>,
-    // why the last call failed that did; none where memory was wanting
-    fault: Option<Fault>,
+    // the file that couldn't be written last
+    unwritten: Option<InputFile>,
 }
 
 impl<'a, R> Drop for Disk<'a, R> {
@@ -48,7 +51,7 @@ impl<'a, R> Drop for Disk<'a, R> {
             rt: _,
             dir: _,
             known: _,
-            fault: _,
+            unwritten: _,
         } = self;
     }
 }
@@ -60,22 +63,7 @@ impl<'a, R: Files + AllocGlobal> Disk<'a, R> {
             rt,
             dir,
             known: Vec::new(rt.alloc()),
-            fault: None,
-        }
-    }
-
-    /// Has calls name a file. It answers the name.
-    pub fn add(&mut self, file: InputFile) -> Result<Text, AllocError>
-        ensures { IfOk result (λ name. name ≡ name_of file) }
-    {
-        self.add_with(file, None)
-    }
-
-    /// The same, of one that may stand beside its place. Nothing where it can have no paths.
-    pub fn add_beside(&mut self, file: InputFile) -> Result<Option<Text>, Fault> {
-        match paths_in(self.rt, self.dir, &file)? {
-            Some(paths) => Ok(Some(self.add_with(file, Some(paths))?)),
-            None => Ok(None),
+            unwritten: None,
         }
     }
 
@@ -83,7 +71,7 @@ impl<'a, R: Files + AllocGlobal> Disk<'a, R> {
         ensures { IfOk result (λ name. name ≡ name_of file) }
     {
         let alloc = self.rt.alloc();
-        let name = Text::from_string(format!(in alloc; "{file}")?);
+        let name = name_of(alloc, &file)?;
         let path = path_of(alloc, self.dir, &file)?;
         let known = Known {
             name: name.clone()?,
@@ -95,39 +83,76 @@ impl<'a, R: Files + AllocGlobal> Disk<'a, R> {
         Ok(name)
     }
 
-    /// Keeps why files can't be read.
-    pub fn unread(&mut self, fault: Fault) -> ReadFault {
-        match fault {
-            Fault::OutOfMemory => ReadFault::OutOfMemory,
-            fault => {
-                self.fault = Some(fault);
-                ReadFault::Unreadable
+    /// That a file can't be written.
+    fn last_unwritten(&mut self) -> Fault
+        ensures { IsUnsaved result }
+    {
+        match self.unwritten.take() {
+            Some(file) => Fault::Unwritten(file),
+            None => Fault::OutOfMemory,
+        }
+    }
+}
+
+impl<'a, R: Files + AllocGlobal> HistoryFolder for Disk<'a, R>
+where
+    R::File: LockFile,
+{
+    ghost may_fail = { λ d. ⊤ };
+
+    fn alloc(&self) -> Global {
+        self.rt.alloc()
+    }
+
+    fn read(&self, file: InputFile, is_beside: bool) -> Result<Vec<u8>, Fault> {
+        let path = path_of(self.rt.alloc(), self.dir, &file)?;
+        if !is_beside {
+            return read_bytes(self.rt, file, path.as_str());
+        }
+        match paths_of(self.rt, path.as_str()) {
+            Ok(paths) => read_bytes(self.rt, file, paths.beside.as_str()),
+            Err(error) => read_as(file, Text::from_string(path), Err(error)),
+        }
+    }
+
+    fn stands(&self, file: &InputFile, is_beside: bool) -> Result<bool, Fault> {
+        if is_beside {
+            return match paths_in(self.rt, self.dir, file)? {
+                Some(paths) => Ok(fs::symlink_metadata(self.rt, paths.beside.as_str()).is_ok()),
+                None => Ok(false),
+            };
+        }
+        let path = path_of(self.rt.alloc(), self.dir, file)?;
+        match fs::symlink_metadata(self.rt, path.as_str()) {
+            Ok(_) => Ok(true),
+            Err(error) => {
+                passed_over::<()>(&error)?;
+                Ok(false)
             }
         }
     }
 
-    /// Why a save failed.
-    pub fn unsaved(&mut self, fault: WriteFault) -> Fault {
+    fn add(&mut self, files: Vec<InputFile>) -> Result<(), AllocError> {
+        for file in files {
+            self.add_with(file, None)?;
+        }
+        Ok(())
+    }
+
+    fn add_beside(&mut self, files: Vec<InputFile>) -> Result<Vec<Text>, Fault> {
+        let mut names = Vec::new(self.rt.alloc());
+        for file in files {
+            if let Some(paths) = paths_in(self.rt, self.dir, &file)? {
+                names.push(self.add_with(file, Some(paths))?)?;
+            }
+        }
+        Ok(names)
+    }
+
+    fn unsaved(&mut self, fault: WriteFault) -> Fault {
         match fault {
             WriteFault::OutOfMemory => Fault::OutOfMemory,
-            WriteFault::Unwritten => self.last_fault(),
-        }
-    }
-
-    /// Why a repair failed.
-    pub fn unrepaired(&mut self, fault: RepairFault) -> Fault {
-        match fault {
-            RepairFault::Read(ReadFault::OutOfMemory) => Fault::OutOfMemory,
-            RepairFault::Write(WriteFault::OutOfMemory) => Fault::OutOfMemory,
-            RepairFault::Read(ReadFault::Unreadable) | RepairFault::Write(WriteFault::Unwritten) =>
-                self.last_fault(),
-        }
-    }
-
-    fn last_fault(&mut self) -> Fault {
-        match self.fault.take() {
-            Some(fault) => fault,
-            None => Fault::OutOfMemory,
+            WriteFault::Unwritten => self.last_unwritten(),
         }
     }
 }
@@ -159,7 +184,7 @@ where
                 known.paths = Some(paths);
                 Ok(())
             }
-            Err(error) => Err(kept(&mut self.fault, &known.file, &error)),
+            Err(error) => Err(kept(&mut self.unwritten, &known.file, &error)),
         }
     }
 
@@ -172,7 +197,7 @@ where
         };
         match rename_to_path(self.rt, paths) {
             Ok(()) => Ok(()),
-            Err(error) => Err(kept(&mut self.fault, &known.file, &error)),
+            Err(error) => Err(kept(&mut self.unwritten, &known.file, &error)),
         }
     }
 
@@ -182,7 +207,7 @@ where
         };
         match remove_path(self.rt, known.path.as_str()) {
             Ok(()) => Ok(()),
-            Err(error) => Err(kept(&mut self.fault, &known.file, &error)),
+            Err(error) => Err(kept(&mut self.unwritten, &known.file, &error)),
         }
     }
 
@@ -210,15 +235,15 @@ fn known_of<'k>(all: &'k mut Vec<Known>, name: &str) -> Option<&'k mut Known> {
     all.get_mut(place)
 }
 
-/// Keeps why a file can't be written.
-fn kept(fault: &mut Option<Fault>, file: &InputFile, error: &io::Error) -> WriteFault {
+/// Keeps which file can't be written.
+fn kept(unwritten: &mut Option<InputFile>, file: &InputFile, error: &io::Error) -> WriteFault {
     let Ok(file) = file.clone() else {
         return WriteFault::OutOfMemory;
     };
-    match unwritten(file, error) {
-        Fault::OutOfMemory => WriteFault::OutOfMemory,
-        told => {
-            *fault = Some(told);
+    match error.kind() {
+        ErrorKind::OutOfMemory => WriteFault::OutOfMemory,
+        _ => {
+            *unwritten = Some(file);
             WriteFault::Unwritten
         }
     }
@@ -272,7 +297,7 @@ where
 }
 
 /// The paths of a file of the folder. Nothing where it can have none.
-pub fn paths_in<R: Files + AllocGlobal>(
+fn paths_in<R: Files + AllocGlobal>(
     rt: &R,
     dir: &str,
     file: &InputFile,
@@ -285,7 +310,7 @@ pub fn paths_in<R: Files + AllocGlobal>(
 }
 
 /// The paths of a file that stands at this one, or is to stand there.
-pub fn paths_of<R: Files + AllocGlobal>(rt: &R, path: &str) -> io::Result<FilePaths> {
+fn paths_of<R: Files + AllocGlobal>(rt: &R, path: &str) -> io::Result<FilePaths> {
     let path = end_of_links(rt, path)?;
     let beside = format!(in rt.alloc(); "{path}.new")?;
     Ok(FilePaths { path, beside })

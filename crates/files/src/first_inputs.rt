@@ -1,9 +1,12 @@
 // What a history begins with.
 
-ghost use Rattle.std.specs.Prelude.{◌≡◌, IfOk, Ok, map};
+ghost use Rattle.std.specs.Prelude.{◌≡◌, IfOk, IfSome, Ok, map};
+ghost use Rattle.files.specs.Places.{AreKnown, bytes_read};
+ghost use Rattle.inputs.specs.Inputs.{requirements_in};
 ghost use Rattle.inputs.specs.PinsFiles.{ArePinsFor, given_by};
 ghost use Rattle.inputs.specs.TargetFiles.{targets_in};
 
+use crate::history_folder::HistoryFolder;
 use crate::saved_files::SavedFiles;
 use edits::{FirstTargets, ReqFile, TargetName, Targets};
 use inputs::handed_in::HandedIn;
@@ -38,19 +41,24 @@ pub struct FirstInputs {
 
 /// Reads the requirements file of a folder, an index, the environments of targets, and files of pins, which standard
 /// input may be one of. No history and no lock is read. All files are read before a fault in one of them is told.
-pub fn first_inputs<R: Files + AllocGlobal, I: Read + Drop>(
+pub fn first_inputs<R: Files + AllocGlobal, F: HistoryFolder, I: Read + Drop>(
     rt: &R,
-    dir: &str,
+    folder: &F,
     paths: FirstPaths<'_>,
     input: I,
-) -> Result<FirstInputs, Fault> {
+) -> Result<FirstInputs, Fault>
+    ensures known { IfOk result (λ first. IfSome (F.held folder.now)
+        (λ h. AreKnown h (bytes_read first.files))) }
+    ensures lines { IfOk result
+        (λ first. requirements_in first.files.requirements.items ≡ Ok first.lines) }
+{
     let alloc = rt.alloc();
     let FirstPaths {
         index,
         targets,
         pins,
     } = paths;
-    let files = SavedFiles::requirements_alone(rt, dir)?;
+    let files = SavedFiles::requirements_alone(folder)?;
     let index = read_bytes(rt, InputFile::Index, index)?;
     let environments = read_all(rt, targets)?;
     let pins = read_pins(&mut HandedIn::new(rt, input), pins)?;

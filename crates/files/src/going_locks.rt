@@ -4,33 +4,33 @@ ghost use Rattle.std.specs.Prelude.{◌≡◌, IfOk};
 ghost use Rattle.files.specs.TargetLocks.{AreGone, has_gone, has_target, is_told_of, locks_gone, tells_of};
 
 use crate::beside::Beside;
+use crate::history_folder::HistoryFolder;
 use crate::saved_files::{journal_in, names_in};
 use edits::{Change, Target, TargetName};
 use inputs::{Fault, InputFile};
 use journal::Session;
 use lists::Seq;
 use std::alloc::{AllocError, Global};
-use std::rt::Files;
 
 /// The locks that go with the journal in its place, where that of this history takes its place: of targets that the one in
 /// its place has, and of which a step of this history tells that they went. A first lock removes none.
-pub(crate) fn going_with<R: Files + AllocGlobal>(
-    rt: &R,
-    dir: &str,
+pub(crate) fn going_with<F: HistoryFolder>(
+    folder: &F,
     session: &Session,
 ) -> Result<Vec<InputFile>, Fault>
     ensures { IfOk result (λ going. AreGone session.now going.items) }
 {
-    let names = standing_names(rt, dir)?;
+    let names = standing_names(folder)?;
     let targets = session.state().targets();
-    Ok(locks_gone(rt.alloc(), names, targets, session.changes())?)
+    Ok(locks_gone(folder.alloc(), names, targets, session.changes())?)
 }
 
 /// The targets that the journal in its place has. One that can't be read has none.
-fn standing_names<R: Files + AllocGlobal>(rt: &R, dir: &str) -> Result<Seq<TargetName>, Fault> {
-    match journal_in(rt, dir, &Beside::none(rt.alloc())) {
-        Ok(journal) => names_in(rt.alloc(), &journal),
-        Err(Fault::Input(_file, _fault)) => Ok(Seq::new(rt.alloc())),
+fn standing_names<F: HistoryFolder>(folder: &F) -> Result<Seq<TargetName>, Fault> {
+    let alloc = folder.alloc();
+    match journal_in(folder, &Beside::none(alloc)) {
+        Ok(journal) => names_in(alloc, &journal),
+        Err(Fault::Input(_file, _fault)) => Ok(Seq::new(alloc)),
         Err(fault) => Err(fault),
     }
 }

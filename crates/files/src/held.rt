@@ -1,5 +1,6 @@
 // What the files of a folder tell of a history, also where somebody else changed the requirements file alone.
 
+use crate::disk::Disk;
 use crate::saved_files::SavedFiles;
 use crate::saved_history::saved_files;
 use crate::stopped_save::is_left;
@@ -97,11 +98,10 @@ where
 }
 
 /// What these files of the folder tell.
-pub fn held_in<R: Files + AllocGlobal>(
-    rt: &R,
-    dir: &str,
-    files: &SavedFiles,
-) -> Result<Held, Fault> {
+pub fn held_in<R: Files + AllocGlobal>(rt: &R, dir: &str, files: &SavedFiles) -> Result<Held, Fault>
+where
+    R::File: LockFile,
+{
     match files.open(rt.alloc()) {
         Ok(session) => Ok(Held::History(session)),
         Err(Fault::Input(InputFile::Requirements, InputFault::Disagrees)) => {
@@ -117,8 +117,11 @@ fn held_without<R: Files + AllocGlobal>(
     rt: &R,
     dir: &str,
     files: &SavedFiles,
-) -> Result<Held, Fault> {
-    if is_left(rt, dir)? {
+) -> Result<Held, Fault>
+where
+    R::File: LockFile,
+{
+    if is_left(&Disk::new(rt, dir))? {
         return Err(Fault::Input(InputFile::Requirements, InputFault::Disagrees));
     }
     match files.told(rt.alloc()) {

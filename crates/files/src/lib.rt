@@ -13,6 +13,7 @@ mod disk;
 pub mod first_inputs;
 mod going_locks;
 pub mod held;
+mod history_folder;
 mod links_out;
 mod rewrite;
 mod saved_files;
@@ -21,6 +22,8 @@ pub mod standing_lock;
 mod stopped_save;
 
 pub use crate::beside::Beside;
+pub use crate::disk::Disk;
+pub use crate::history_folder::HistoryFolder;
 pub use crate::links_out::link_out;
 pub use crate::rewrite::Rewrite;
 pub use crate::saved_files::SavedFiles;

@@ -1,15 +1,18 @@
 // A save of files in the place of others.
 
-ghost use Rattle.std.specs.Prelude.{◌≡◌, IfOk, map};
+ghost use Rattle.std.specs.Prelude.{◌≡◌, IfErr, IfOk, OnOk, map};
+ghost use Rattle.folder.specs.Calls.{IsDone, Ran};
+ghost use Rattle.folder.specs.Saves.{IsUnderWay, saved};
+ghost use Rattle.inputs.specs.FileNames.{name_of};
 ghost use Rattle.files.specs.NamedRewrites.{AreNamedApart, new_file};
+ghost use Rattle.files.specs.Places.{IsUnsaved};
 
-use crate::disk::Disk;
+use crate::history_folder::HistoryFolder;
 use folder::{NewFile, save};
-use inputs::{Fault, InputFile, LockFile};
+use inputs::{Fault, InputFile};
 use lists::Text;
 use std::alloc::{AllocError, Global};
 use std::marker::Model;
-use std::rt::Files;
 
 /// A file that is to be rewritten, and the bytes that it is to hold.
 pub struct Rewrite<'a> {
@@ -52,43 +55,77 @@ impl<'a> Model for Named<'a> {
 }
 
 /// Removes files of a folder, and rewrites others in turn, as `folder::save` does. No two of these have one name.
-pub fn rewrite_all<R: Files + AllocGlobal>(
-    rt: &R,
-    dir: &str,
+pub fn rewrite_all<F: HistoryFolder>(
+    folder: &mut F,
     rewrites: &[Rewrite<'_>],
     going: Vec<InputFile>,
 ) -> Result<(), Fault>
-where
-    R::File: LockFile,
     requires { AreNamedApart rewrites.now }
+    ensures done { OnOk result (Ran F.held F.may_leave F.moment F.left_since F.faults
+        (IsDone (saved (map new_file rewrites.now) (map name_of going.items)))
+        (IsUnderWay (map new_file rewrites.now) (map name_of going.items))
+        folder.old folder.new) }
+    ensures any { Ran F.held F.may_leave F.moment F.left_since F.faults
+        (IsUnderWay (map new_file rewrites.now) (map name_of going.items))
+        (IsUnderWay (map new_file rewrites.now) (map name_of going.items))
+        folder.old folder.new }
+    ensures fault { IfErr result IsUnsaved }
 {
-    let mut disk = Disk::new(rt, dir);
-    let named = named_all(&mut disk, rewrites)?;
-    let mut going_names = Vec::with_capacity(rt.alloc(), going.len())?;
-    for file in going {
-        going_names.push(disk.add(file)?)?;
-    }
-    let files = new_files(rt.alloc(), named.as_slice())?;
-    match save(&mut disk, files.as_slice(), going_names.as_slice()) {
+    let alloc = folder.alloc();
+    let named = named_all(alloc, rewrites)?;
+    let going_names = names_of_all(alloc, going.as_slice())?;
+    let files = files_of(alloc, rewrites, going)?;
+    folder.add(files)?;
+    let files = new_files(alloc, named.as_slice())?;
+    match save(&mut *folder, files.as_slice(), going_names.as_slice()) {
         Ok(()) => Ok(()),
-        Err(fault) => Err(disk.unsaved(fault)),
+        Err(fault) => Err(folder.unsaved(fault)),
     }
 }
 
-/// Has calls name files that are to be rewritten.
-fn named_all<'a, R: Files + AllocGlobal>(
-    disk: &mut Disk<'_, R>,
-    rewrites: &[Rewrite<'a>],
-) -> Result<Vec<Named<'a>>, AllocError>
+/// The files that are to be rewritten, with their names.
+fn named_all<'a>(alloc: Global, rewrites: &[Rewrite<'a>]) -> Result<Vec<Named<'a>>, AllocError>
     ensures { IfOk result (λ named. named.items ≡ map new_file rewrites.now) }
 {
-    let mut named = Vec::with_capacity(disk.rt.alloc(), rewrites.len())?;
+    let mut named = Vec::with_capacity(alloc, rewrites.len())?;
     for rewrite in rewrites {
-        let name = disk.add(rewrite.file.clone()?)?;
+        let name = name_of(alloc, &rewrite.file)?;
         let bytes = rewrite.bytes;
         named.push(Named { name, bytes })?;
     }
     Ok(named)
+}
+
+/// The name of a file.
+pub(crate) fn name_of(alloc: Global, file: &InputFile) -> Result<Text, AllocError>
+    ensures { IfOk result (λ name. name ≡ name_of file.now) }
+{
+    Ok(Text::from_string(format!(in alloc; "{file}")?))
+}
+
+/// The names of files.
+pub(crate) fn names_of_all(alloc: Global, files: &[InputFile]) -> Result<Vec<Text>, AllocError>
+    ensures { IfOk result (λ names. names.items ≡ map name_of files.now) }
+{
+    let mut names = Vec::with_capacity(alloc, files.len())?;
+    for file in files {
+        names.push(name_of(alloc, file)?)?;
+    }
+    Ok(names)
+}
+
+/// Files that are to be rewritten, and others behind them.
+fn files_of(
+    alloc: Global,
+    rewrites: &[Rewrite<'_>],
+    others: Vec<InputFile>,
+) -> Result<Vec<InputFile>, AllocError> {
+    let mut files = Vec::with_capacity(alloc, rewrites.len())?;
+    for rewrite in rewrites {
+        files.push(rewrite.file.clone()?)?;
+    }
+    files.extend(others)?;
+    Ok(files)
 }
 
 /// The same files, with their names lent.

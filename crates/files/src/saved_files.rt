@@ -4,26 +4,29 @@ ghost use Rattle.std.specs.BTreeMap.{IsOrdered};
 ghost use Rattle.std.specs.Cmp.Lexicographic.{slice_cmp};
 ghost use Rattle.std.specs.Option.{option_map_or};
 ghost use Rattle.std.specs.Ordering.{nat_cmp};
-ghost use Rattle.std.specs.Prelude.{◌≡◌, ◌⊎◌, ◌++◌, [], IfErr, IfOk, OnOk, Ok, Err, string_bytes, ℕ};
+ghost use Rattle.std.specs.Prelude.{◌≡◌, ◌⊎◌, ◌++◌, [], IfErr, IfOk, IfSome, OnOk, Ok, Err, Some, string_bytes, ℕ};
+ghost use Rattle.folder.specs.Calls.{Ran};
 ghost use Rattle.journal.specs.Opens.{NamesTargets, Opens, ToldBy};
 ghost use Rattle.states.specs.declared.refusal.Refusal.TheVariants.{JournalBroken};
-ghost use Rattle.files.specs.Beside.{StandFor};
+ghost use Rattle.files.specs.Beside.{StandFor, has, taken_from};
+ghost use Rattle.files.specs.Places.{AllAre, AreInPlace, AreKnown, IsUnread, IsUnsaved, LocksStandAt, StandAt, bytes_read, standing};
+ghost use Rattle.files.specs.Saving.{IsBeingSavedOver, IsSavedOver};
+ghost use Rattle.inputs.specs.declared.input_files.InputFile.TheVariants as input_files;
 ghost use Rattle.inputs.specs.Faults.{TellsFault};
 ghost use Rattle.files.specs.NamedRewrites.{AreNamedApart};
 ghost use Rattle.files.specs.Rewrites.{going_of, has_lock, is_known, is_left, lock_rewrites, rewrites_of, rewriting};
 ghost use Rattle.inputs.specs.declared.fault.Fault.TheVariants.{OutOfMemory};
 
-use crate::beside::Beside;
-use crate::disk::paths_of;
+use crate::beside::{Beside, push_where};
+use crate::history_folder::HistoryFolder;
 use crate::rewrite::{Rewrite, rewrite_all};
 use crate::stopped_save::{end_stopped, remove_left_of_opened};
 use edits::{Refusal, TargetName};
-use inputs::{Fault, InputFile, LockFile, path_of, read_as, read_bytes};
+use inputs::{Fault, InputFile};
 use journal::{Journal, Saved, Session, Told};
 use lists::{Seq, Text};
 use std::alloc::{AllocError, Global};
 use std::collections::BTreeMap;
-use std::rt::Files;
 
 /// What the files held when they were read.
 #[derive(Drop)]
@@ -36,20 +39,23 @@ pub struct SavedFiles {
 impl SavedFiles {
     /// Reads the files of a folder: the requirements file first, then the journal, and the locks last,
     /// in the order of the names that the journal has.
-    pub fn read<R: Files + AllocGlobal>(rt: &R, dir: &str) -> Result<SavedFiles, Fault> {
-        SavedFiles::read_with(rt, dir, &Beside::none(rt.alloc()))
+    pub fn read<F: HistoryFolder>(folder: &F) -> Result<SavedFiles, Fault>
+        ensures { IfOk result (λ files. IfSome (F.held folder.now)
+            (λ h. AreInPlace h (bytes_read files))) }
+    {
+        SavedFiles::read_with(folder, &Beside::none(folder.alloc()))
     }
 
     /// Reads the files to save others in their place. Where one can't be read, a save may have been
     /// stopped: then that is ended first.
-    pub fn read_to_save<R: Files + AllocGlobal>(rt: &R, dir: &str) -> Result<SavedFiles, Fault>
-    where
-        R::File: LockFile,
+    pub fn read_to_save<F: HistoryFolder>(folder: &mut F) -> Result<SavedFiles, Fault>
+        ensures { IfOk result (λ files. IfSome (F.held folder.new)
+            (λ h. AreInPlace h (bytes_read files))) }
     {
-        match SavedFiles::read(rt, dir) {
+        match SavedFiles::read(&*folder) {
             Err(Fault::Input(file, fault)) => {
-                if end_stopped(rt, dir)? {
-                    SavedFiles::read(rt, dir)
+                if end_stopped(&mut *folder)? {
+                    SavedFiles::read(&*folder)
                 } else {
                     Err(Fault::Input(file, fault))
                 }
@@ -60,32 +66,28 @@ impl SavedFiles {
 
     /// Reads the requirements file alone. The journal counts as empty, and no lock as there, so that
     /// all of them are written.
-    pub fn requirements_alone<R: Files + AllocGlobal>(
-        rt: &R,
-        dir: &str,
-    ) -> Result<SavedFiles, Fault> {
-        let beside = Beside::none(rt.alloc());
-        let requirements = read_in(rt, dir, InputFile::Requirements, &beside)?;
+    pub fn requirements_alone<F: HistoryFolder>(folder: &F) -> Result<SavedFiles, Fault>
+        ensures known { IfOk result (λ files. IfSome (F.held folder.now)
+            (λ h. AreKnown h (bytes_read files))) }
+    {
+        let alloc = folder.alloc();
+        let requirements = folder.read(InputFile::Requirements, false)?;
         Ok(SavedFiles {
             requirements,
-            locks: BTreeMap::new(rt.alloc()),
-            journal: Journal::read(rt.alloc(), Seq::new(rt.alloc()))?,
+            locks: BTreeMap::new(alloc),
+            journal: Journal::read(alloc, Seq::new(alloc))?,
         })
     }
 
     /// Reads the files, and of these the one that stands beside its place.
-    pub fn read_with<R: Files + AllocGlobal>(
-        rt: &R,
-        dir: &str,
-        beside: &Beside,
-    ) -> Result<SavedFiles, Fault> {
-        let requirements = read_in(rt, dir, InputFile::Requirements, beside)?;
-        let journal = journal_in(rt, dir, beside)?;
-        let mut locks = BTreeMap::new(rt.alloc());
-        for name in names_in(rt.alloc(), &journal)?.into_vec() {
-            let lock = read_in(rt, dir, InputFile::Lock(name.clone()?), beside)?;
-            locks.insert(name, Seq::from_vec(lock))?;
-        }
+    pub fn read_with<F: HistoryFolder>(folder: &F, beside: &Beside) -> Result<SavedFiles, Fault>
+        ensures { IfOk result (λ files. IfSome (F.held folder.now)
+            (λ h. StandAt (has beside.now) h (bytes_read files))) }
+    {
+        let requirements = read_in(folder, InputFile::Requirements, beside)?;
+        let journal = journal_in(folder, beside)?;
+        let names = names_in(folder.alloc(), &journal)?;
+        let locks = locks_in(folder, names, beside)?;
         Ok(SavedFiles {
             requirements,
             locks,
@@ -137,79 +139,94 @@ impl SavedFiles {
 
     /// The files, with the history that they stand for, to save another in their place. Where they
     /// stand for none, a save may have been stopped: then that is ended first. Nothing of one is left.
-    pub fn open_to_save<R: Files + AllocGlobal>(
+    pub fn open_to_save<F: HistoryFolder>(
         self,
-        rt: &R,
-        dir: &str,
+        folder: &mut F,
     ) -> Result<(SavedFiles, Session), Fault>
-    where
-        R::File: LockFile,
         ensures { IfOk result (λ opened. StandFor opened.0 opened.1) }
     {
-        self.open_over_to_save(rt, dir, None)
+        self.open_over_to_save(folder, None)
     }
 
     /// The same where somebody else changed the requirements file, with the old text in its place.
-    pub fn open_hand_changed<R: Files + AllocGlobal>(
+    pub fn open_hand_changed<F: HistoryFolder>(
         self,
-        rt: &R,
-        dir: &str,
+        folder: &mut F,
         old: &[u8],
     ) -> Result<(SavedFiles, Session), Fault>
-    where
-        R::File: LockFile,
         ensures { IfOk result (λ opened. Opens old.now opened.0.locks.entries opened.0.journal
             (Ok opened.1)) }
     {
-        self.open_over_to_save(rt, dir, Some(old))
+        self.open_over_to_save(folder, Some(old))
     }
 
     /// The same, with this text in the place of the requirements file where one is given.
-    fn open_over_to_save<R: Files + AllocGlobal>(
+    fn open_over_to_save<F: HistoryFolder>(
         self,
-        rt: &R,
-        dir: &str,
+        folder: &mut F,
         requirements: Option<&[u8]>,
     ) -> Result<(SavedFiles, Session), Fault>
-    where
-        R::File: LockFile,
         ensures { IfOk result (λ opened. Opens
             (option_map_or (λ text. text.now) requirements.entry opened.0.requirements.items)
             opened.0.locks.entries opened.0.journal (Ok opened.1)) }
     {
-        match self.open_over(rt.alloc(), requirements) {
+        match self.open_over(folder.alloc(), requirements) {
             Ok(session) => {
-                remove_left_of_opened(rt, dir, &session)?;
+                remove_left_of_opened(folder, &session)?;
                 Ok((self, session))
             }
             Err(Fault::Input(file, fault)) => {
-                if !end_stopped(rt, dir)? {
+                if !end_stopped(&mut *folder)? {
                     return Err(Fault::Input(file, fault));
                 }
-                let files = SavedFiles::read(rt, dir)?;
-                let session = files.open_over(rt.alloc(), requirements)?;
-                remove_left_of_opened(rt, dir, &session)?;
+                let files = SavedFiles::read(&*folder)?;
+                let session = files.open_over(folder.alloc(), requirements)?;
+                remove_left_of_opened(folder, &session)?;
                 Ok((files, session))
             }
             Err(fault) => Err(fault),
         }
     }
 
+    /// Those of these files that were taken from beside their places, in the order in which a save renames them.
+    pub(crate) fn taken_from(
+        &self,
+        alloc: Global,
+        beside: &Beside,
+    ) -> Result<Vec<InputFile>, AllocError>
+        ensures taken { IfOk result (λ files. files.items ≡ taken_from beside.now self.now) }
+        ensures rising { IfOk result (λ files. IsOrdered (slice_cmp nat_cmp) self.now.locks) }
+    {
+        let mut files = Vec::new(alloc);
+        push_where(&mut files, beside.requirements, InputFile::Requirements)?;
+        for (name, _lock) in &self.locks {
+            push_where(
+                &mut files,
+                beside.locks.contains(name),
+                InputFile::Lock(name.clone()?),
+            )?;
+        }
+        push_where(&mut files, beside.journal, InputFile::Journal)?;
+        Ok(files)
+    }
+
     /// Saves a history in the place of these files. A file that doesn't change isn't touched, and the lock of a
     /// target that the history hasn't any more is removed.
-    pub fn rewrite<R: Files + AllocGlobal>(
-        &self,
-        rt: &R,
-        dir: &str,
-        session: &Session,
-    ) -> Result<(), Fault>
-    where
-        R::File: LockFile,
+    pub fn rewrite<F: HistoryFolder>(&self, folder: &mut F, session: &Session) -> Result<(), Fault>
+        ensures saved { AllAre (F.held folder.old) (F.may_leave folder.old)
+            (λ h. AreKnown h (bytes_read self.now)) → OnOk result (Ran F.held F.may_leave
+            F.moment F.left_since F.faults (IsSavedOver self.now session.now)
+            (IsBeingSavedOver self.now session.now) folder.old folder.new) }
+        ensures any_moment { Ran F.held F.may_leave F.moment F.left_since F.faults
+            (IsBeingSavedOver self.now session.now) (IsBeingSavedOver self.now session.now)
+            folder.old folder.new }
+        ensures fault { IfErr result IsUnsaved }
     {
-        let saved = session.save(rt.alloc())?;
-        let rewrites = self.rewrites(rt.alloc(), &saved)?;
-        let going = self.going(rt.alloc(), &saved)?;
-        rewrite_all(rt, dir, rewrites.as_slice(), going)
+        let alloc = folder.alloc();
+        let saved = session.save(alloc)?;
+        let rewrites = self.rewrites(alloc, &saved)?;
+        let going = self.going(alloc, &saved)?;
+        rewrite_all(folder, rewrites.as_slice(), going)
     }
 
     /// The locks that were read, of targets that the saved history hasn't.
@@ -234,6 +251,7 @@ impl SavedFiles {
     ) -> Result<Vec<Rewrite<'a>>, AllocError>
         ensures rewrites { IfOk result (λ files. files.items ≡ rewrites_of self.now saved.now) }
         ensures apart { IfOk result (λ files. AreNamedApart files.items) }
+        ensures rising { IfOk result (λ files. IsOrdered (slice_cmp nat_cmp) saved.now.locks) }
     {
         let mut files = Vec::new(alloc);
         let text = saved.requirements.as_str();
@@ -328,28 +346,43 @@ pub fn names_in(alloc: Global, journal: &Journal) -> Result<Seq<TargetName>, Fau
     }
 }
 
-/// The journal, in its place or, where it is among these, beside it.
-pub fn journal_in<R: Files + AllocGlobal>(
-    rt: &R,
-    dir: &str,
+/// The locks of targets, in their places or, where they are among these, beside them.
+fn locks_in<F: HistoryFolder>(
+    folder: &F,
+    names: Seq<TargetName>,
     beside: &Beside,
-) -> Result<Journal, Fault> {
-    let bytes = read_in(rt, dir, InputFile::Journal, beside)?;
-    Ok(Journal::read(rt.alloc(), Seq::from_vec(bytes))?)
+) -> Result<BTreeMap<TargetName, Seq<u8>>, Fault>
+    ensures { IfOk result (λ locks. IfSome (F.held folder.now)
+        (λ h. LocksStandAt (has beside.now) h locks.entries)) }
+{
+    let mut locks = BTreeMap::new(folder.alloc());
+    for name in names.into_vec() {
+        let lock = read_in(folder, InputFile::Lock(name.clone()?), beside)?;
+        locks.insert(name, Seq::from_vec(lock))?;
+    }
+    Ok(locks)
+}
+
+/// The journal, in its place or, where it is among these, beside it.
+pub fn journal_in<F: HistoryFolder>(folder: &F, beside: &Beside) -> Result<Journal, Fault>
+    ensures { IfOk result (λ journal. IfSome (F.held folder.now)
+        (λ h. standing (has beside.now input_files.Journal) h input_files.Journal ≡ Some journal)) }
+{
+    let bytes = read_in(folder, InputFile::Journal, beside)?;
+    Ok(Journal::read(folder.alloc(), Seq::from_vec(bytes))?)
 }
 
 /// The bytes of a file, in its place or, where it is among these, beside it.
-pub fn read_in<R: Files + AllocGlobal>(
-    rt: &R,
-    dir: &str,
+pub fn read_in<F: HistoryFolder>(
+    folder: &F,
     file: InputFile,
     beside: &Beside,
-) -> Result<Vec<u8>, Fault> {
-    let path = path_of(rt.alloc(), dir, &file)?;
-    if !beside.has(&file) {
-        return read_bytes(rt, file, path.as_str());
-    }
-    let paths = paths_of(rt, path.as_str());
-    let paths = read_as(file.clone()?, Text::from_string(path), paths)?;
-    read_bytes(rt, file, paths.beside.as_str())
+) -> Result<Vec<u8>, Fault>
+    ensures bytes { IfOk result (λ bytes. IfSome (F.held folder.now)
+        (λ h. standing (has beside.now file) h file ≡ Some bytes.items)) }
+    ensures fault { IfErr result
+        (IsUnread (F.held folder.now) (F.may_fail folder.now) (has beside.now file) file) }
+{
+    let is_beside = beside.has(&file);
+    folder.read(file, is_beside)
 }

@@ -3,6 +3,8 @@
 ghost use Rattle.std.specs.Prelude.{IfOk};
 ghost use Rattle.files.specs.Beside.{SomeStandFor, StandFor};
 
+use crate::disk::Disk;
+use crate::history_folder::HistoryFolder;
 use crate::saved_files::SavedFiles;
 use inputs::{Fault, InputFile, LockFile, in_file, lock_to_read, read_bytes, read_index};
 use journal::Session;
@@ -15,7 +17,7 @@ where
     R::File: LockFile,
 {
     let _lock = lock_to_read(rt, dir)?;
-    SavedFiles::read(rt, dir)
+    SavedFiles::read(&Disk::new(rt, dir))
 }
 
 /// The history that the files of the folder stand for. Nothing is written to them meanwhile.
@@ -54,19 +56,17 @@ pub struct SavedHistory {
 
 /// The history that the files of the folder stand for and an index, to save another in their place. A save that
 /// was stopped is ended first. All files are read before a fault in one of them is told.
-pub fn history_to_save<R: Files + AllocGlobal>(
+pub fn history_to_save<R: Files + AllocGlobal, F: HistoryFolder>(
     rt: &R,
-    dir: &str,
+    folder: &mut F,
     index: &str,
 ) -> Result<SavedHistory, Fault>
-where
-    R::File: LockFile,
     ensures { IfOk result (λ saved. StandFor saved.files saved.session) }
 {
     let alloc = rt.alloc();
-    let files = SavedFiles::read_to_save(rt, dir)?;
+    let files = SavedFiles::read_to_save(&mut *folder)?;
     let index = read_bytes(rt, InputFile::Index, index)?;
-    let (files, session) = files.open_to_save(rt, dir)?;
+    let (files, session) = files.open_to_save(folder)?;
     let snapshot = in_file(InputFile::Index, read_index(alloc, index.as_slice()))?;
     Ok(SavedHistory {
         files,

@@ -3,12 +3,11 @@
 ghost use Rattle.std.specs.Prelude.{◌≡◌, IfOk, map};
 ghost use Rattle.files.specs.TargetLocks.{AreNamesNow, IsOfComing, coming, does_come, is_among};
 
+use crate::history_folder::HistoryFolder;
 use edits::{Target, TargetName};
-use inputs::{Fault, InputFile, passed_over, path_of, read_bytes};
+use inputs::{Fault, InputFile};
 use journal::Session;
 use std::alloc::{AllocError, Global};
-use std::fs;
-use std::rt::Files;
 
 /// The names of the targets of the present state.
 pub fn target_names(alloc: Global, session: &Session) -> Result<Vec<TargetName>, AllocError>
@@ -24,18 +23,17 @@ pub fn target_names(alloc: Global, session: &Session) -> Result<Vec<TargetName>,
 
 /// The name of the first target that comes, beside those of these names, in the place of whose lock another file stands: a
 /// save would overwrite that one, and nobody would have it any more.
-pub fn standing_lock<R: Files + AllocGlobal>(
-    rt: &R,
-    dir: &str,
+pub fn standing_lock<F: HistoryFolder>(
+    folder: &F,
     before: &[TargetName],
     session: &Session,
 ) -> Result<Option<TargetName>, Fault>
     ensures { IfOk result (λ name. IsOfComing before.now session.now name) }
 {
-    let coming = coming(rt.alloc(), before, session.state().targets())?;
+    let coming = coming(folder.alloc(), before, session.state().targets())?;
     for place in 0..coming.len() {
         let target = coming[place];
-        if is_taken(rt, dir, target)? {
+        if is_taken(folder, target)? {
             return Ok(Some(target.name.clone()?));
         }
     }
@@ -74,16 +72,13 @@ fn is_among(names: &[TargetName], name: &str) -> bool
 }
 
 /// Whether something else than this lock stands in its place. What can't be told here, the save tells.
-fn is_taken<R: Files + AllocGlobal>(rt: &R, dir: &str, target: &Target) -> Result<bool, Fault> {
-    let alloc = rt.alloc();
+fn is_taken<F: HistoryFolder>(folder: &F, target: &Target) -> Result<bool, Fault> {
     let file = InputFile::Lock(target.name.clone()?);
-    let path = path_of(alloc, dir, &file)?;
-    if let Err(error) = fs::symlink_metadata(rt, path.as_str()) {
-        passed_over::<()>(&error)?;
+    if !folder.stands(&file, false)? {
         return Ok(false);
     }
-    let lock = target.lock.print(alloc)?;
-    match read_bytes(rt, file, path.as_str()) {
+    let lock = target.lock.print(folder.alloc())?;
+    match folder.read(file, false) {
         Ok(bytes) => Ok(bytes.as_slice() != lock.as_bytes()),
         Err(Fault::OutOfMemory) => Err(Fault::OutOfMemory),
         Err(_) => Ok(true),

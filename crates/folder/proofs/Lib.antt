@@ -1,9 +1,9 @@
 pub mod InTurn
 pub mod Names
 mod RepairSteps
+pub mod RepairRuns
 mod RepairTurns
-mod Runs
+pub mod Runs
 mod SaveSteps
 mod Turns
-mod WholeRepairs
-mod WholeSaves
+pub mod WholeSaves

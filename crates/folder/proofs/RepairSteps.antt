@@ -5,7 +5,7 @@ use Rattle.std.proofs.lemmas.Slice.Eq.{bytes_eq-Decides}
 use Rattle.std.specs.Str.{bytes_eq}
 use Rattle.folder.specs.Held.{Files, Held, in_turn, is_among, removed, renamed, with_file}
 use Rattle.folder.specs.Saves.{AreApart, IsUnderWay, NewFileParts, all_staged, names_of, saved, with_all, without_all}
-use Rattle.folder.specs.Repairs.{AreAmong, AreBeside, IsBetween, MayBeLeft}
+use Rattle.folder.specs.Repairs.{AreAmong, AreBeside, HasSamePlaces, IsBetween, IsMoveOf}
 use Rattle.folder.proofs.Names.{same_name, with_all-miss, with_other, without_all-at}
 use Rattle.folder.proofs.SaveSteps.{removed-is}
 
@@ -128,8 +128,8 @@ module _ (files : List NewFileParts) (going : List (List ℕ)) (others : (name :
       ]
     ]
 
-    pub left_by_save : (h : Held) → IsUnderWay files going old h → MayBeLeft files going old h
-    left_by_save h (inl same) = inl (inl (λ name is. ap (λ (f : Files). f name) same.placed))
+    pub left_by_save : (h : Held) → IsUnderWay files going old h → HasSamePlaces old h ⊎ IsBetween files going old h
+    left_by_save h (inl same) = inl same.placed
     left_by_save h (inr way) = inr (λ x. subst (λ (y : Held). At y x) (sym way.2) (way_at way.0 (way.0 - length going) x))
 
   -- ---- what a repair leaves
@@ -197,3 +197,34 @@ beside_as (x ∷ some) h k same all = (ap (λ (b : Files). is_some (b x)) same �
 
 pub beside_removed : (some gone : List (List ℕ)) (h : Held) → AreBeside some h → AreBeside some (in_turn removed gone h)
 beside_removed some gone h all = beside_as some h (in_turn removed gone h) (ap (λ (k : Held). k.beside) (removed-is gone h)) all
+
+-- ---- what stands in a place
+
+-- a place holds what it held, or what stood beside it, or nothing; and beside it stands what did, or nothing
+abbrev Comes : Held → Held → List ℕ → Type 0
+Comes h k x = ((k.placed x ≡ h.placed x) ⊎ ((k.placed x ≡ h.beside x) ⊎ (k.placed x ≡ None))) × ((k.beside x ≡ h.beside x) ⊎ (k.beside x ≡ None))
+
+pub comes_removed : (name : List ℕ) (h k : Held) → ((x : List ℕ) → Comes h k x) → (x : List ℕ) → Comes h (removed name k) x
+comes_removed name h k come x = elim (cases_Bool (bytes_eq name x)) [
+  | inl same ↦ (inr (inr (with_this_one k.placed name None x same)), (come x).1)
+  | inr differ ↦ (subst (λ (y : Option (List ℕ)). (y ≡ h.placed x) ⊎ ((y ≡ h.beside x) ⊎ (y ≡ None))) (sym (with_other k.placed name None x differ)) (come x).0, (come x).1)
+]
+
+pub comes_renamed : (name : List ℕ) (h k : Held) → ((x : List ℕ) → Comes h k x) → (x : List ℕ) → Comes h (renamed name k) x
+comes_renamed name h k come x = elim (cases_Bool (bytes_eq name x)) [
+  | inl same ↦ (put same, inr (with_this_one k.beside name None x same))
+  | inr differ ↦ (
+    subst (λ (y : Option (List ℕ)). (y ≡ h.placed x) ⊎ ((y ≡ h.beside x) ⊎ (y ≡ None))) (sym (with_other k.placed name (k.beside name) x differ)) (come x).0,
+    subst (λ (y : Option (List ℕ)). (y ≡ h.beside x) ⊎ (y ≡ None)) (sym (with_other k.beside name None x differ)) (come x).1,
+  )
+]
+  where
+    put : bytes_eq name x ≡ true → ((renamed name k).placed x ≡ h.placed x) ⊎ (((renamed name k).placed x ≡ h.beside x) ⊎ ((renamed name k).placed x ≡ None))
+    put same =
+        let is : (renamed name k).placed x ≡ k.beside x = with_this_one k.placed name (k.beside name) x same ∙ ap (λ (y : List ℕ). k.beside y) ((bytes_eq-Decides name x).0 same) in
+        elim (come x).1 [ inl stood ↦ inr (inl (is ∙ stood)) | inr none ↦ inr (inr (is ∙ none)) ]
+
+pub all_come : (step : List ℕ → Held → Held) → ((name : List ℕ) (h k : Held) → ((x : List ℕ) → Comes h k x) → (x : List ℕ) → Comes h (step name k) x)
+    → (names : List (List ℕ)) (h k : Held) → ((x : List ℕ) → Comes h k x) → (x : List ℕ) → Comes h (in_turn step names k) x
+all_come step one [] h k come = come
+all_come step one (name ∷ names) h k come = all_come step one names h (step name k) (one name h k come)

@@ -19,31 +19,6 @@ among_name (n ∷ names) (suc i) name within is = or_true (bytes_eq n name) (is_
     or_true true b is = refl
     or_true false b is = is
 
-some_is : (a b : Held) → Some a ≡ Some b → a ≡ b
-some_is a b is = ap (λ (o : Option Held). out o) is
-  where
-    out : Option Held → Held
-    out None = a
-    out (Some x) = x
-
-at_some : (o : Option Held) (P : Held → Type 0) (d : Held) → o ≡ Some d → IfSome o P → P d
-at_some None P d is holds = absurd (cc is)
-at_some (Some x) P d is holds = subst P (some_is x d is) holds
-
-with_answer : (P : Held → Type 0) (a b : Option Held) → IfSome a P → GoTogether IsSame a b → GoTogether (λ h k. (k ≡ h) × P h) a b
-with_answer P None None answer goes = tt
-with_answer P None (Some y) answer goes = absurd goes
-with_answer P (Some x) None answer goes = absurd goes
-with_answer P (Some x) (Some y) answer goes = (goes, answer)
-
-module _ {F : Type 0} (held : F → Option Held) (may_leave : F → Held → Type 0) where
-  -- what a test has told is so of each thing that a stop may have left
-  pub tested : (P : Held → Type 0) (old new : F) → IsSettled held may_leave old → IfSome (held old) P → Follows held may_leave IsSame old new → Follows held may_leave (λ h k. (k ≡ h) × P h) old new
-  tested P old new settled answer follows = record {
-    holds = with_answer P (held old) (held new) answer follows.holds;
-    leaves = λ c left. let from = follows.leaves c left in (from.0, from.1, (from.2, at_some (held old) P from.0 (settled from.0 from.1) answer));
-  }
-
 module _ {F : Type 0} (held : F → Option Held) (may_leave : F → Held → Type 0) (moment : F → ℕ) (left_since : F → ℕ → Held → Type 0) (faults : F → ℕ) where
   abbrev R : (Held → Held → Type 0) → (Held → Held → Type 0) → F → F → Type 0
   R = Ran held may_leave moment left_since faults

@@ -1,5 +1,5 @@
 -- The three parts of a save, one after another.
-use Rattle.std.proofs.Common.{◌≡◌, ◌≤◌, ℕ, Bool, true, List, [], Option, IfSome, refl, sym, ap, ◌∙◌, subst, inl}
+use Rattle.std.proofs.Common.{◌≡◌, ◌≤◌, ℕ, Bool, true, false, List, [], Option, IfSome, arith, length, refl, sym, ap, ◌∙◌, subst, inl, take_all, true≢false}
 use Rattle.folder.specs.Calls.{Follows, IsDone, IsSame, LeavesOnly}
 use Rattle.folder.specs.Held.{Held, IsSameBut, in_turn, removed}
 use Rattle.folder.specs.Saves.{AreApart, IsUnderWay, NewFileParts, names_of, saved}
@@ -76,3 +76,12 @@ module _ {F : Type 0} (held : F → Option Held) (may_leave : F → Held → Typ
         renamed_all old r n so_far follows moments rise =
             runs_on held may_leave moment left_since faults Ready (IsDone (in_turn rename_file files)) (IsDone (saved files going)) Under Renaming old r n so_far follows moments rise
             (λ h k m a b. b ∙ ap (λ (x : Held). in_turn rename_file files x) a ∙ renamed-all files going apart h) under_renamed
+
+-- a save that was made has come to its end
+pub saved_is_under_way : (files : List NewFileParts) (going : List (List ℕ)) → AreApart files → (h : Held) → IsUnderWay files going h (saved files going h)
+saved_is_under_way files going apart h =
+    subst (λ (x : Held). IsUnderWay files going h x) (renamed-all files going apart h)
+    (way-renamed files going apart false (λ is. absurd (true≢false (sym is))) h staged (in_turn rename_file files staged) refl (inl (length files, omega arith, ap (λ (some : List NewFileParts). in_turn rename_file some staged) (sym (take_all (length files) files (omega arith))))))
+  where
+    staged : Held
+    staged = in_turn removed going (in_turn stage_file files h)

@@ -43,6 +43,16 @@ pub record LeavesOnly {F : Type 0} (moment : F → ℕ) (left_since : F → ℕ 
   -- for a run that began earlier
   pub before : (t : ℕ) (c : Held) → t ≤ moment old → left_since new t c → left_since old t c ⊎ After goes (may_leave old) c
 
+-- A run of calls leads so from what was held to what is held, and a stop within it leaves this.
+pub record Ran {F : Type 0} (held : F → Option Held) (may_leave : F → Held → Type 0) (moment : F → ℕ) (left_since : F → ℕ → Held → Type 0) (faults : F → ℕ) (goes within : Held → Held → Type 0) (old new : F) : Type 0 where
+  pub follows : Follows held may_leave goes old new
+  pub moments : LeavesOnly moment left_since may_leave within old new
+  pub faults_rise : faults old ≤ faults new
+
+-- nothing has changed
+abbrev pub Stays : {F : Type 0} → (F → Option Held) → (F → Held → Type 0) → (F → ℕ) → (F → ℕ → Held → Type 0) → (F → ℕ) → F → F → Type 0
+Stays held may_leave moment left_since faults old new = Ran held may_leave moment left_since faults IsSame IsSame old new
+
 -- this fault is told only where a read or a write has failed since
 pub record HasCause {F T E : Type 0} (held : F → Option Held) (faults : F → ℕ) (old new : F) (result : Result T E) (fault : E) : Type 0 where
   pub later : faults old ≤ faults new

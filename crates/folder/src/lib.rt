@@ -7,5 +7,5 @@ mod repair;
 mod saving;
 
 pub use crate::folder::{Folder, WriteFault};
-pub use crate::repair::{Left, ReadFault, RepairFault, Whole, clear_names, end_save};
-pub use crate::saving::{NewFile, are_apart, save};
+pub use crate::repair::{Left, clear_names, end_save};
+pub use crate::saving::{NewFile, save};

@@ -1,8 +1,8 @@
 // A save: all files are written beside their places, and only when all of them stand are others removed, and they put into their places.
 
-ghost use Rattle.std.specs.Prelude.{◌≡◌, ◌≤◌, ◌↔◌, IfSome, IsTrue, OnErr, OnOk, true};
+ghost use Rattle.std.specs.Prelude.{◌≤◌, IfSome, OnErr, OnOk, true};
 ghost use Rattle.folder.specs.Calls.{Follows, HasCause, IsDone, LeavesOnly};
-ghost use Rattle.folder.specs.Held.{IsSameBut, in_turn, is_among, removed};
+ghost use Rattle.folder.specs.Held.{IsSameBut, in_turn, removed};
 ghost use Rattle.folder.specs.Saves.{AreApart, IsUnderWay, names_of, saved};
 ghost use Rattle.folder.specs.Tied.Steps.{AreStaged, IsOnTheWayOrBeside, rename_file, stage_file};
 ghost use Rattle.folder.specs.declared.folder.WriteFault.TheVariants.{Unwritten};
@@ -29,26 +29,6 @@ impl<'a> Model for NewFile<'a> {
     ghost Value = { NewFileParts };
 
     ghost view = { λ f. record { name = f.name.now; bytes = f.bytes.now } };
-}
-
-/// Whether no name stands twice.
-pub fn are_apart(files: &[NewFile<'_>]) -> bool
-    ensures { IsTrue result ↔ AreApart files.now }
-{
-    match files {
-        [] => true,
-        [first, rest @ ..] => !has_name(rest, first.name) && are_apart(rest),
-    }
-}
-
-/// Whether one of the files has this name.
-fn has_name(files: &[NewFile<'_>], name: &str) -> bool
-    ensures { result ≡ is_among (names_of files.now) name.now }
-{
-    match files {
-        [] => false,
-        [first, rest @ ..] => first.name == name || has_name(rest, name),
-    }
 }
 
 /// Saves files in the place of those that a folder holds, and removes others. All is written beside the places first; then the

@@ -12,6 +12,7 @@ use command_line::request::{
 };
 use commands::batch::StreamFault;
 use details::{CallFiles, Details};
+use files::Disk;
 use inputs::LockFile;
 use inputs::target_files::{TargetPath, target_files};
 use journal::Command;
@@ -209,7 +210,8 @@ where
     match subcommand {
         Subcommand::Init(options, saving) => init(call, details, &options, saving, targets, input),
         Subcommand::Edit(asked, options, Saving::Save) => {
-            edit_once(call, details, asked, options, targets, input)
+            let mut disk = Disk::new(call.rt, call.dir);
+            edit_once(call, &mut disk, details, asked, options, targets, input)
         }
         Subcommand::Edit(asked, options, Saving::DryRun) => {
             rehearse_edit(call, details, asked, options, targets, input)
@@ -220,7 +222,10 @@ where
         Subcommand::Batch {
             options,
             is_all_or_none,
-        } => { run_batch(call, details, options, is_all_or_none, input) }
+        } => {
+            let mut disk = Disk::new(call.rt, call.dir);
+            run_batch(call, &mut disk, details, options, is_all_or_none, input)
+        }
         Subcommand::Try(options) => try_commands(call, options.index, targets, input),
         Subcommand::Show(shown, format) => print_shown(call, errors, shown, format),
         Subcommand::Log { is_long, format } => print_history(call, errors, is_long, format),
@@ -278,7 +283,10 @@ where
 {
     let paths = first_paths(call.rt.alloc(), options, targets)?;
     match saving {
-        Saving::Save => begin_history(call, details, paths, input),
+        Saving::Save => {
+            let mut disk = Disk::new(call.rt, call.dir);
+            begin_history(call, &mut disk, details, paths, input)
+        }
         Saving::DryRun => rehearse_init(call, details, paths, input),
     }
 }
@@ -294,7 +302,7 @@ where
     R::File: LockFile,
 {
     match saving {
-        Saving::Save => step_once(call, details, command),
+        Saving::Save => step_once(call, &mut Disk::new(call.rt, call.dir), details, command),
         Saving::DryRun => rehearse_step(call, details, command),
     }
 }
@@ -310,7 +318,7 @@ where
     R::File: LockFile,
 {
     match saving {
-        Saving::Save => forget_once(call, details, beginning),
+        Saving::Save => { forget_once(call, &mut Disk::new(call.rt, call.dir), details, beginning) }
         Saving::DryRun => rehearse_forget(call, details, beginning),
     }
 }

@@ -11,6 +11,7 @@ use edits::Pool;
 use files::first_inputs::FirstPaths;
 use files::saved_history::{SavedHistory, history_to_save};
 use files::standing_lock::target_names;
+use files::{Disk, HistoryFolder};
 use inputs::LockFile;
 use inputs::target_files::TargetPath;
 use journal::Session;
@@ -22,22 +23,20 @@ use stops::Stop;
 
 /// Does the commands of the input over an index, prints the replies, and saves at the end where one
 /// was accepted. Where all or none are to be done, nothing is saved if one was refused, and the call stops.
-pub fn run_batch<R: Files + AllocGlobal, I: Read + Drop, O: Write>(
+pub fn run_batch<R: Files + AllocGlobal, F: HistoryFolder, I: Read + Drop, O: Write>(
     call: &mut Call<'_, R, O>,
+    folder: &mut F,
     details: &mut Details,
     options: EditOptions<'_>,
     is_all_or_none: bool,
     input: I,
-) -> Result<(), Stop>
-where
-    R::File: LockFile,
-{
-    let (rt, dir) = (call.rt, call.dir);
+) -> Result<(), Stop> {
+    let rt = call.rt;
     let SavedHistory {
         files,
         mut session,
         snapshot,
-    } = history_to_save(rt, dir, options.index)?;
+    } = history_to_save(rt, &mut *folder, options.index)?;
     let pool = pool_of(&snapshot, options);
     let before = target_names(rt.alloc(), &session)?;
     let output = &mut call.output;
@@ -52,8 +51,8 @@ where
     match end {
         BatchEnd::Save => {
             let before = before.as_slice();
-            refuse_standing(rt, dir, details, before, &session, false)?;
-            Ok(files.rewrite(rt, dir, &session)?)
+            refuse_standing(&*folder, details, before, &session, false)?;
+            Ok(files.rewrite(folder, &session)?)
         }
         BatchEnd::Leave => Ok(()),
         BatchEnd::Refuse(line) => {
@@ -71,8 +70,12 @@ pub fn try_commands<R: Files + AllocGlobal, I: Read + Drop, O: Write>(
     index: &str,
     targets: Vec<TargetPath>,
     input: I,
-) -> Result<(), Stop> {
+) -> Result<(), Stop>
+where
+    R::File: LockFile,
+{
     let alloc = call.rt.alloc();
+    let disk = Disk::new(call.rt, call.dir);
     let mut none = Details::none(alloc);
     let no_input: &[u8] = &[];
     let paths = FirstPaths {
@@ -84,7 +87,7 @@ pub fn try_commands<R: Files + AllocGlobal, I: Read + Drop, O: Write>(
         files: _,
         mut session,
         snapshot,
-    } = begin(call.rt, call.dir, &mut none, paths, no_input)?;
+    } = begin(call.rt, &disk, &mut none, paths, no_input)?;
     let pool = Pool::whole(&snapshot);
     let _ = done_to_the_end(alloc, input, &mut call.output, &mut session, &pool, false)?;
     let text = session.state().lines().bytes(alloc)?;

@@ -6,6 +6,7 @@ use calls::{Call, UnsavedEdit, asked_edit, difference_between, pool_of};
 use command_line::request::{AskedEdit, EditOptions};
 use commands::ReplyText;
 use details::{Changed, Details, Place};
+use files::Disk;
 use files::saved_history::saved_session;
 use files::standing_lock::target_names;
 use inputs::LockFile;
@@ -58,17 +59,18 @@ pub(crate) fn rehearse<R: Files + AllocGlobal, O: Write>(
     mut session: Session,
     command: &Command<'_>,
     only_if_needed: bool,
-) -> Result<(), Stop> {
+) -> Result<(), Stop>
+where
+    R::File: LockFile,
+{
     let alloc = call.rt.alloc();
     let from = Place::of(&session);
     let before = target_names(alloc, &session)?;
     let mut text = ReplyText::new(alloc)?;
     let reply = applied(alloc, details, &mut session, command, only_if_needed)?;
     text.set(&reply);
-    let (rt, dir) = (call.rt, call.dir);
     refuse_standing(
-        rt,
-        dir,
+        &Disk::new(call.rt, call.dir),
         details,
         before.as_slice(),
         &session,

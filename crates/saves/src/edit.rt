@@ -9,10 +9,9 @@ use calls::{Call, ReadEdit, asked_edit_to_save, difference_between, pool_of};
 use command_line::request::{AskedEdit, EditOptions};
 use commands::{ReplyText, apply_command, is_accepted};
 use details::{Changed, Details, Place};
-use files::SavedFiles;
 use files::saved_history::SavedHistory;
 use files::standing_lock::target_names;
-use inputs::LockFile;
+use files::{HistoryFolder, SavedFiles};
 use inputs::target_files::TargetPath;
 use journal::{Command, Reply, Session};
 use reports::print;
@@ -23,19 +22,22 @@ use stops::{Stop, unless_refused};
 use texts::diff_text::diff_text;
 
 /// Makes one edit over an index. `targets` are those that take the place of the present ones, where it asks for some.
-pub fn edit_once<R: Files + AllocGlobal, I: Read + Drop, O: Write>(
+pub fn edit_once<R: Files + AllocGlobal, F: HistoryFolder, I: Read + Drop, O: Write>(
     call: &mut Call<'_, R, O>,
+    folder: &mut F,
     details: &mut Details,
     asked: AskedEdit<'_>,
     options: EditOptions<'_>,
     targets: Vec<TargetPath>,
     input: I,
-) -> Result<(), Stop>
-where
-    R::File: LockFile,
-{
+) -> Result<(), Stop> {
     let ReadEdit { history, edit } = asked_edit_to_save(
-        call.rt, call.dir, asked, options, targets, input,
+        call.rt,
+        &mut *folder,
+        asked,
+        options,
+        targets,
+        input,
     )?;
     let SavedHistory {
         files,
@@ -45,6 +47,7 @@ where
     let command = Command::Edit(edit, pool_of(&snapshot, options));
     apply(
         call,
+        folder,
         details,
         &files,
         session,
@@ -54,32 +57,28 @@ where
 }
 
 /// Does one command that needs no index.
-pub fn step_once<R: Files + AllocGlobal, O: Write>(
+pub fn step_once<R: AllocGlobal, F: HistoryFolder, O: Write>(
     call: &mut Call<'_, R, O>,
+    folder: &mut F,
     details: &mut Details,
     command: &Command<'_>,
-) -> Result<(), Stop>
-where
-    R::File: LockFile,
-{
-    let (rt, dir) = (call.rt, call.dir);
-    let (files, session) = SavedFiles::read_to_save(rt, dir)?.open_to_save(rt, dir)?;
-    apply(call, details, &files, session, command, false)
+) -> Result<(), Stop> {
+    let files = SavedFiles::read_to_save(&mut *folder)?;
+    let (files, session) = files.open_to_save(&mut *folder)?;
+    apply(call, folder, details, &files, session, command, false)
 }
 
 /// Does one command, saves where it was accepted, and prints the reply. What changed is worked out before anything is
 /// saved, since memory may be wanting for it.
-pub(crate) fn apply<R: Files + AllocGlobal, O: Write>(
+pub(crate) fn apply<R: AllocGlobal, F: HistoryFolder, O: Write>(
     call: &mut Call<'_, R, O>,
+    folder: &mut F,
     details: &mut Details,
     files: &SavedFiles,
     mut session: Session,
     command: &Command<'_>,
     only_if_needed: bool,
-) -> Result<(), Stop>
-where
-    R::File: LockFile,
-{
+) -> Result<(), Stop> {
     let alloc = call.rt.alloc();
     let from = Place::of(&session);
     let before = target_names(alloc, &session)?;
@@ -94,16 +93,9 @@ where
         command,
     )?;
     if is_accepted(&reply) {
-        let (rt, dir) = (call.rt, call.dir);
-        refuse_standing(
-            rt,
-            dir,
-            details,
-            before.as_slice(),
-            &session,
-            takes_pins(command),
-        )?;
-        files.rewrite(call.rt, call.dir, &session)?;
+        let takes_pins = takes_pins(command);
+        refuse_standing(&*folder, details, before.as_slice(), &session, takes_pins)?;
+        files.rewrite(folder, &session)?;
     }
     Ok(print(&mut call.output, text.as_bytes())?)
 }

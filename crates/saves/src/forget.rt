@@ -7,8 +7,8 @@ use calls::Call;
 use command_line::request::Beginning;
 use commands::{ReplyText, is_accepted};
 use details::Details;
-use files::SavedFiles;
 use files::saved_history::saved_session;
+use files::{HistoryFolder, SavedFiles};
 use inputs::LockFile;
 use journal::{Reply, Session};
 use reports::print;
@@ -17,21 +17,19 @@ use std::rt::Files;
 use stops::Stop;
 
 /// Has the history begin with a later state, saves it where that takes steps away, and prints the reply.
-pub fn forget_once<R: Files + AllocGlobal, O: Write>(
+pub fn forget_once<R: AllocGlobal, F: HistoryFolder, O: Write>(
     call: &mut Call<'_, R, O>,
+    folder: &mut F,
     details: &mut Details,
     beginning: Beginning,
-) -> Result<(), Stop>
-where
-    R::File: LockFile,
-{
-    let (rt, dir) = (call.rt, call.dir);
-    let (files, mut session) = SavedFiles::read_to_save(rt, dir)?.open_to_save(rt, dir)?;
-    let mut text = ReplyText::new(rt.alloc())?;
-    let reply = noted(details, dir, &mut session, beginning, true)?;
+) -> Result<(), Stop> {
+    let files = SavedFiles::read_to_save(&mut *folder)?;
+    let (files, mut session) = files.open_to_save(&mut *folder)?;
+    let mut text = ReplyText::new(call.rt.alloc())?;
+    let reply = noted(details, call.dir, &mut session, beginning, true)?;
     text.set(&reply);
     if is_accepted(&reply) {
-        files.rewrite(rt, dir, &session)?;
+        files.rewrite(folder, &session)?;
     }
     Ok(print(&mut call.output, text.as_bytes())?)
 }

@@ -5,7 +5,7 @@ use commands::ReplyText;
 use details::Details;
 use files::first_inputs::{FirstInputs, FirstPaths, first_inputs};
 use files::saved_history::SavedHistory;
-use files::{SavedFiles, end_left, link_out, remove_left};
+use files::{Disk, HistoryFolder, SavedFiles, end_left, link_out, remove_left};
 use inputs::{Fault, LinkOut, LockFile};
 use journal::{Reply, Session};
 use reports::print;
@@ -19,30 +19,28 @@ use texts::diff_text::first_lock_text;
 /// Locks the requirements file, keeping the pins that are handed in, and saves the history that begins with it. A save that was stopped is
 /// ended before, so that its history stays where this one can't be saved. A link is followed only to a file of
 /// reqlock's.
-pub fn begin_history<R: Files + AllocGlobal, I: Read + Drop, O: Write>(
+pub fn begin_history<R: Files + AllocGlobal, F: HistoryFolder, I: Read + Drop, O: Write>(
     call: &mut Call<'_, R, O>,
+    folder: &mut F,
     details: &mut Details,
     paths: FirstPaths<'_>,
     input: I,
-) -> Result<(), Stop>
-where
-    R::File: LockFile,
-{
+) -> Result<(), Stop> {
     let (rt, dir) = (call.rt, call.dir);
-    let left = end_left(rt, dir)?;
-    let steps_before = steps_before(details, rt, dir)?;
+    let left = end_left(&mut *folder)?;
+    let steps_before = steps_before(details, &*folder)?;
     let SavedHistory {
         files,
         session,
         snapshot,
-    } = begin(rt, dir, details, paths, input)?;
+    } = begin(rt, &*folder, details, paths, input)?;
     refuse_link(rt, dir, details, &session)?;
     let mut text = ReplyText::new(rt.alloc())?;
     text.set(&Reply::Done(session.cursor()));
     details.add_first_lock(rt.alloc(), &session, &snapshot, "locked")?;
     details.add_replaced(dir, steps_before)?;
-    remove_left(rt, dir, left, &session)?;
-    files.rewrite(rt, dir, &session)?;
+    remove_left(&mut *folder, left, &session)?;
+    files.rewrite(folder, &session)?;
     Ok(print(&mut call.output, text.as_bytes())?)
 }
 
@@ -53,15 +51,19 @@ pub fn rehearse_init<R: Files + AllocGlobal, I: Read + Drop, O: Write>(
     details: &mut Details,
     paths: FirstPaths<'_>,
     input: I,
-) -> Result<(), Stop> {
+) -> Result<(), Stop>
+where
+    R::File: LockFile,
+{
     let (rt, dir) = (call.rt, call.dir);
     let alloc = rt.alloc();
-    let steps_before = steps_before(details, rt, dir)?;
+    let disk = Disk::new(rt, dir);
+    let steps_before = steps_before(details, &disk)?;
     let SavedHistory {
         files: _,
         session,
         snapshot,
-    } = begin(rt, dir, details, paths, input)?;
+    } = begin(rt, &disk, details, paths, input)?;
     refuse_link(rt, dir, details, &session)?;
     let mut text = ReplyText::new(alloc)?;
     text.set(&Reply::Done(session.cursor()));
@@ -88,9 +90,9 @@ fn refuse_link<R: Files + AllocGlobal>(
 }
 
 /// The history that `init` begins with, the requirements file that it was made of, and the index.
-pub fn begin<R: Files + AllocGlobal, I: Read + Drop>(
+pub fn begin<R: Files + AllocGlobal, F: HistoryFolder, I: Read + Drop>(
     rt: &R,
-    dir: &str,
+    folder: &F,
     details: &mut Details,
     paths: FirstPaths<'_>,
     input: I,
@@ -101,7 +103,7 @@ pub fn begin<R: Files + AllocGlobal, I: Read + Drop>(
         lines,
         first,
         snapshot,
-    } = first_inputs(rt, dir, paths, input)?;
+    } = first_inputs(rt, folder, paths, input)?;
     let question = details.first_question(alloc, &lines, &first.targets)?;
     let session = match Session::init_keeping(alloc, lines, first, &snapshot, &RESOLVER) {
         Ok(session) => session,
@@ -119,16 +121,12 @@ pub fn begin<R: Files + AllocGlobal, I: Read + Drop>(
 
 /// How many steps the history has that an `init` is about to replace; none where there is no history, or nobody is
 /// told.
-fn steps_before<R: Files + AllocGlobal>(
-    details: &Details,
-    rt: &R,
-    dir: &str,
-) -> Result<usize, Stop> {
+fn steps_before<F: HistoryFolder>(details: &Details, folder: &F) -> Result<usize, Stop> {
     if !details.manner.is_person {
         return Ok(0);
     }
-    let opened = match SavedFiles::read(rt, dir) {
-        Ok(files) => files.open(rt.alloc()),
+    let opened = match SavedFiles::read(folder) {
+        Ok(files) => files.open(folder.alloc()),
         Err(fault) => Err(fault),
     };
     match opened {

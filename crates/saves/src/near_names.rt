@@ -2,8 +2,9 @@
 
 use details::Details;
 use edits::Refusal;
-use files::SavedFiles;
 use files::held::held_in;
+use files::{Disk, SavedFiles};
+use inputs::LockFile;
 use std::alloc::AllocError;
 use std::rt::Files;
 use stops::Stop;
@@ -14,14 +15,17 @@ pub fn add_near_names<R: Files + AllocGlobal>(
     dir: &str,
     details: &mut Details,
     stop: &Stop,
-) -> Result<(), AllocError> {
+) -> Result<(), AllocError>
+where
+    R::File: LockFile,
+{
     let Stop::Refused(Refusal::NotLocked(name)) = stop else {
         return Ok(());
     };
     if !details.tells() {
         return Ok(());
     }
-    let Ok(files) = SavedFiles::read(rt, dir) else {
+    let Ok(files) = SavedFiles::read(&Disk::new(rt, dir)) else {
         return Ok(());
     };
     match held_in(rt, dir, &files) {

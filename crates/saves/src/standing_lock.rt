@@ -2,22 +2,21 @@
 
 use details::Details;
 use edits::TargetName;
+use files::HistoryFolder;
 use files::standing_lock::standing_lock;
 use inputs::InputFile;
 use journal::Session;
-use std::rt::Files;
 use stops::Stop;
 
 /// Refuses it, and notes the ways out, of which pins may be one. The names are those of the targets before.
-pub(crate) fn refuse_standing<R: Files + AllocGlobal>(
-    rt: &R,
-    dir: &str,
+pub(crate) fn refuse_standing<F: HistoryFolder>(
+    folder: &F,
     details: &mut Details,
     before: &[TargetName],
     session: &Session,
     takes_pins: bool,
 ) -> Result<(), Stop> {
-    let Some(name) = standing_lock(rt, dir, before, session)? else {
+    let Some(name) = standing_lock(folder, before, session)? else {
         return Ok(());
     };
     details.add_standing(&name, takes_pins)?;

@@ -12,7 +12,9 @@ use calls::{Call, UnsavedEdit, pool_of};
 use command_line::request::{EditOptions, Told};
 use edits::{Edit, Problem, TargetName, problem_after, problems_of_init};
 use explain::{ChangedLines, Extent, Wording};
+use files::Disk;
 use files::first_inputs::{FirstInputs, FirstPaths, first_inputs};
+use inputs::LockFile;
 use lists::Text;
 use notes::Lacks;
 use reports::print;
@@ -56,14 +58,18 @@ pub(crate) fn print_why_init<R: Files + AllocGlobal, I: Read + Drop, O: Write, W
     paths: FirstPaths<'_>,
     telling: Telling<W>,
     input: I,
-) -> Result<(), Stop> {
+) -> Result<(), Stop>
+where
+    R::File: LockFile,
+{
     let alloc = call.rt.alloc();
+    let disk = Disk::new(call.rt, call.dir);
     let FirstInputs {
         files: _,
         lines,
         first,
         snapshot,
-    } = first_inputs(call.rt, call.dir, paths, input)?;
+    } = first_inputs(call.rt, &disk, paths, input)?;
     let edit = match line {
         Some(text) => Edit::Add(Text::copy_of(alloc, text)?),
         None => Edit::Relock,

@@ -4,4 +4,4 @@ use Rattle.files.proofs.rewrite.named_all.Given as goal
 
 -- the files so far
 abbrev pub invariant-loop-rewrite : goal.invariant-loop-rewrite
-invariant-loop-rewrite g l = l.named.items ≡ map new_file (take l.rewrite-index l.rewrites)
+invariant-loop-rewrite l = l.named.items ≡ map new_file (take l.rewrite-index l.rewrites)

@@ -1,0 +1,4 @@
+pub mod OneHistory
+pub mod Repeated
+pub mod Standing
+pub mod Stopped

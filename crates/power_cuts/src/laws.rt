@@ -1,0 +1,49 @@
+//! Laws of what the files in a folder stand for.
+
+ghost use Rattle.power_cuts.specs.OneHistory.{AFolderStandsForOneHistory, AJournalTellsOneHistory};
+ghost use Rattle.power_cuts.specs.Repeated.{RepairsComeToOne};
+ghost use Rattle.power_cuts.specs.Standing.{PlacesStandForOneHistory, WhatStandsIsOpened};
+ghost use Rattle.power_cuts.specs.Stopped.{AStopLeavesTheOldOrTheNew};
+
+use journal::laws::files_stand_for_one_history;
+
+/// A journal tells one history: whatever files open beside it stand for the same one, if no two of them that differ have
+/// the same digest.
+pub fn a_journal_tells_one_history()
+    ensures law { AJournalTellsOneHistory }
+{
+    files_stand_for_one_history();
+}
+
+/// A folder stands for one history: files that open from it, each name with one text, stand for the same one. No digest is
+/// asked about.
+pub fn a_folder_stands_for_one_history()
+    ensures law { AFolderStandsForOneHistory }
+{
+    files_stand_for_one_history();
+}
+
+/// The files in the places of a folder stand for one history at most.
+pub fn places_stand_for_one_history()
+    ensures law { PlacesStandForOneHistory }
+{
+    files_stand_for_one_history();
+}
+
+/// Files that stand for a history in their places open as it, where the locks are read that the journal names.
+pub fn what_stands_is_opened()
+    ensures law { WhatStandsIsOpened }
+{}
+
+/// A save that was stopped at any moment, and the repair of the next call, lead to the old history or to the new one, if no
+/// two of the files that differ have the same digest.
+pub fn a_stop_leaves_the_old_or_the_new()
+    ensures law { AStopLeavesTheOldOrTheNew }
+{
+    files_stand_for_one_history();
+}
+
+/// Any number of repairs in turn, each ended or stopped at any moment, come to one.
+pub fn repairs_come_to_one()
+    ensures law { RepairsComeToOne }
+{}
