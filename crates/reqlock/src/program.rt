@@ -302,7 +302,10 @@ where
     R::File: LockFile,
 {
     match saving {
-        Saving::Save => step_once(call, &mut Disk::new(call.rt, call.dir), details, command),
+        Saving::Save => {
+            let mut disk = Disk::new(call.rt, call.dir);
+            step_once(call, &mut disk, details, command)
+        }
         Saving::DryRun => rehearse_step(call, details, command),
     }
 }
@@ -318,7 +321,10 @@ where
     R::File: LockFile,
 {
     match saving {
-        Saving::Save => { forget_once(call, &mut Disk::new(call.rt, call.dir), details, beginning) }
+        Saving::Save => {
+            let mut disk = Disk::new(call.rt, call.dir);
+            forget_once(call, &mut disk, details, beginning)
+        }
         Saving::DryRun => rehearse_forget(call, details, beginning),
     }
 }
