@@ -1,2 +1,2 @@
--- What serves proofs alone. It is tied to the rest by the contract of `save`, and need not be read.
+-- What serves proofs, tied to the rest by the contract of `save`. Of it only `IsOnTheWay` need be read, which `IsEnding` cites.
 pub mod Steps

@@ -23,7 +23,7 @@ pub fn a_stopped_repair_leaves_each_file()
         → IsBetween files going old was → IsEnding left was is → IsBetween files going old is }
 {}
 
-/// A repair puts into a place what stood beside it, or empties it, and does nothing else.
+/// A repair leaves in each place what it held, or what stood beside it, or nothing.
 pub fn a_repair_moves()
     ensures law { (left : LeftParts) (old new : Held) → IsEnding left old new → IsMoveOf old new }
 {}

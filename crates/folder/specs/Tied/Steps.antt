@@ -1,4 +1,4 @@
--- The steps of a save, one after another. Tied to `IsUnderWay` and `saved` by the contract of `save`; need not be read.
+-- The steps of a save, one after another. Tied to `IsUnderWay` and `saved` by the contract of `save`; only `IsOnTheWay` need be read.
 use Rattle.std.specs.Prelude.{◌≡◌, ◌⊎◌, ◌≤◌, ℕ, Bool, true, List, [], ◌∷◌, IsSome, length, take}
 use Rattle.folder.specs.Held.{Held, IsSameBut, in_turn, renamed, staged}
 use Rattle.folder.specs.Saves.{NewFileParts, names_of}
