@@ -16,6 +16,21 @@ PROMISES: tuple[tuple[str, str, tuple[tuple[str, str, str], ...]], ...] = (
         (("journal", "Saved", "IsSaved"), ("journal", "Saved", "OpensAs"), ("journal", "Opens", "Opens"), ("journal", "Opens", "Tells")),
     ),
     (
+        "A call leaves in its folder what was asked for, or what was there, whenever it is stopped",
+        "`edit_once`, `step_once`, `forget_once`, `run_batch` and `begin_history` of `saves`, and its law",
+        (
+            ("saves", "Called", "EditIsDone"),
+            ("saves", "Called", "StepIsDone"),
+            ("saves", "Called", "ForgetIsDone"),
+            ("saves", "Called", "BatchIsDone"),
+            ("saves", "Called", "InitIsDone"),
+            ("saves", "Called", "Called"),
+            ("saves", "Called", "AtAnyMoment"),
+            ("saves", "Called", "IsFaultOfSaving"),
+            ("saves", "StoppedCalls", "LeavesOldOrNew"),
+        ),
+    ),
+    (
         "A refutation is accepted exactly where it is one",
         "`check` of `refutations`, `check_sets` of `set_refutations`",
         (("search", "Conflicts", "IsRefutation"), ("search", "SetConflicts", "IsSetRefutation")),

@@ -1,1 +1,2 @@
+mod GivesWay
 mod ReadLines

@@ -1,4 +1,5 @@
 -- The edit that a replacement is. All of it is reqlock's own rule.
+use Rattle.std.specs.Bool.{⊤}
 use Rattle.std.specs.Prelude.{◌≡◌, ℕ, List, map, IsSomeAnd, Ok}
 use Rattle.std.specs.List.{concat}
 use Rattle.command_line.specs.declared.invocation.NewLines.{NewLines}
@@ -17,13 +18,13 @@ use Rattle.journal.specs.Past.{present}
 use Rattle.journal.specs.Values.{ReqFile}
 use Rattle.markers.specs.Names.{normal_of}
 
--- an edit puts such lines in the place of all lines, with pins for each target of the present state
-pub record Replaces (AreLines : ReqFile → Type 0) (history : HistoryParts) (edit : Edit) : Type 0 where
+-- an edit puts such lines in the place of all lines, with what files that were read for these names pin for each target of the present state
+pub record Replaces (AreLines : ReqFile → Type 0) (pinned_for : List (List ℕ)) (history : HistoryParts) (edit : Edit) : Type 0 where
   pub lines : ReqFile
   pub pins : List TargetPins
   pub is : edit ≡ Replace lines pins
   pub asked : AreLines lines
-  pub pinned : IsSomeAnd (present history.past) (λ state. ArePinsFor (map without_lock state.targets) pins)
+  pub pinned : IsSomeAnd (present history.past) (λ state. ArePinsFor pinned_for (map without_lock state.targets) pins)
 
 -- the new lines: those of a file that was handed in, those that the folder's file has already, or those of the present state with a text in the place of
 -- the line on a name
@@ -33,11 +34,17 @@ AreNewLines (Was path) files history lines = requirements_in files.requirements.
 AreNewLines (Line name text) files history lines =
     IsSomeAnd (present history.past) (λ state. concat lines ≡ concat (with_line_on (normal_of name.now) text.now state.lines))
 
-abbrev pub IsReplacement : NewLines → SavedFiles → HistoryParts → Edit → Type 0
-IsReplacement asked files history edit = Replaces (AreNewLines asked files history) history edit
+abbrev pub IsReplacement : NewLines → List (List ℕ) → SavedFiles → HistoryParts → Edit → Type 0
+IsReplacement asked pinned_for files history edit = Replaces (AreNewLines asked files history) pinned_for history edit
 
 -- the files stand for the history, with an old file in the place of the folder's where that has the new lines already
 abbrev pub IsReplaced : NewLines → SavedFiles → HistoryParts → Type 0
 IsReplaced (File path) files history = StandFor files history
 IsReplaced (Was path) files history = (old : List ℕ) × Opens old files.locks.entries files.journal (Ok history)
 IsReplaced (Line name text) files history = StandFor files history
+
+-- the file in the folder was changed by hand
+abbrev pub IsHandChanged : NewLines → Type 0
+IsHandChanged (File path) = ⊥
+IsHandChanged (Was path) = ⊤
+IsHandChanged (Line name text) = ⊥

@@ -1,7 +1,10 @@
 // The edit that a call asks for, with the history that it is made in.
 
 ghost use Rattle.std.specs.Prelude.{◌≡◌, IfOk};
-ghost use Rattle.calls.specs.AskedEdits.{IsHistoryFor, IsMadeOf, IsMadeOfSome};
+ghost use Rattle.files.specs.Places.{AllAre, AreInPlace, bytes_read};
+ghost use Rattle.files.specs.Repair.{IsRepairOf};
+ghost use Rattle.folder.specs.Calls.{IsSettled, Ran};
+ghost use Rattle.calls.specs.AskedEdits.{IsHistoryFor, IsMadeOf, IsMadeOfSome, MayGiveWay};
 
 use crate::read_edit::{ReadEdit, UnsavedEdit};
 use crate::replacement::{replaced, replaced_to_save};
@@ -26,10 +29,16 @@ pub fn asked_edit_to_save<R: Files + AllocGlobal, F: HistoryFolder, I: Read + Dr
     targets: Vec<TargetPath>,
     input: I,
 ) -> Result<ReadEdit, Stop>
+    requires { IsSettled F.held F.may_leave folder.old }
     ensures history { IfOk result
         (λ read. IsHistoryFor asked.entry read.history.files read.history.session) }
     ensures edit { IfOk result (λ read. IsMadeOf asked.entry targets.items
         read.history.files read.history.session read.edit) }
+    ensures places { IfOk result (λ read. AllAre (F.held folder.new) (F.may_leave folder.new)
+        (λ h. AreInPlace h (bytes_read read.history.files))) }
+    ensures repaired { Ran F.held F.may_leave F.moment F.left_since F.faults
+        (IsRepairOf (MayGiveWay asked.entry (F.may_fail folder.old)))
+        (IsRepairOf (MayGiveWay asked.entry (F.may_fail folder.old))) folder.old folder.new }
 {
     match asked {
         AskedEdit::Typed(edit) => {

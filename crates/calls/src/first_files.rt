@@ -1,5 +1,9 @@
 // The files that a first lock is made of.
 
+ghost use Rattle.std.specs.Prelude.{◌≡◌, IfOk};
+ghost use Rattle.inputs.specs.PinsFiles.{pinned_targets};
+ghost use Rattle.inputs.specs.TargetFiles.{names_of};
+
 use command_line::request::InitOptions;
 use files::first_inputs::FirstPaths;
 use inputs::pins_files::pins_paths;
@@ -12,7 +16,11 @@ pub fn first_paths<'a>(
     alloc: Global,
     options: &InitOptions<'a>,
     targets: Vec<TargetPath>,
-) -> Result<FirstPaths<'a>, Stop> {
+) -> Result<FirstPaths<'a>, Stop>
+    ensures targets { IfOk result (λ paths. paths.targets ≡ targets) }
+    ensures pins { IfOk result
+        (λ paths. names_of paths.pins.items ≡ pinned_targets options.now.pins) }
+{
     let pins = pins_paths(alloc, options.pins.as_slice())?;
     Ok(FirstPaths {
         index: options.index,

@@ -1,10 +1,14 @@
 // What `replace` reads, and the edit that it is.
 
-ghost use Rattle.std.specs.Prelude.{◌≡◌, IfOk, Ok, map};
-ghost use Rattle.calls.specs.Replaces.{IsReplaced, IsReplacement, Replaces};
-ghost use Rattle.calls.specs.Tied.ReadLines.{AreMadeOf, AreReadFor, IsOpened};
+ghost use Rattle.std.specs.Prelude.{◌≡◌, ◌⊎◌, IfOk, Ok, map};
+ghost use Rattle.files.specs.Places.{AllAre, AreInPlace, AreNamed, bytes_read};
+ghost use Rattle.files.specs.Repair.{IsRepairOf};
+ghost use Rattle.folder.specs.Calls.{IsSettled, Ran};
+ghost use Rattle.calls.specs.Replaces.{IsHandChanged, IsReplaced, IsReplacement, Replaces};
+ghost use Rattle.calls.specs.Tied.ReadLines.{AreMadeOf, AreReadFor, HasOld, IsOpened};
 ghost use Rattle.inputs.specs.Inputs.{requirements_in};
-ghost use Rattle.inputs.specs.PinsFiles.{ArePinsFor, given_by, without_lock};
+ghost use Rattle.inputs.specs.PinsFiles.{ArePinsFor, given_by, pinned_targets, without_lock};
+ghost use Rattle.inputs.specs.TargetFiles.{names_read};
 
 use crate::read_edit::ReadEdit;
 use command_line::request::{EditOptions, NewLines, Replacement};
@@ -42,10 +46,17 @@ pub(crate) fn replaced_to_save<R: Files + AllocGlobal, F: HistoryFolder, I: Read
     options: EditOptions<'_>,
     input: I,
 ) -> Result<ReadEdit, Stop>
+    requires { IsSettled F.held F.may_leave folder.old }
     ensures history { IfOk result (λ read. IsReplaced replacement.now.lines read.history.files
         read.history.session) }
-    ensures edit { IfOk result (λ read. IsReplacement replacement.now.lines read.history.files
-        read.history.session read.edit) }
+    ensures edit { IfOk result (λ read. IsReplacement replacement.now.lines
+        (pinned_targets replacement.now.pins) read.history.files read.history.session read.edit) }
+    ensures places { IfOk result (λ read. AllAre (F.held folder.new) (F.may_leave folder.new)
+        (λ h. AreInPlace h (bytes_read read.history.files))) }
+    ensures repaired { Ran F.held F.may_leave F.moment F.left_since F.faults
+        (IsRepairOf (F.may_fail folder.old ⊎ IsHandChanged replacement.now.lines))
+        (IsRepairOf (F.may_fail folder.old ⊎ IsHandChanged replacement.now.lines))
+        folder.old folder.new }
 {
     let files = SavedFiles::read_to_save(&mut *folder)?;
     let read = read_handed(rt, replacement, options, input)?;
@@ -65,8 +76,8 @@ where
     R::File: LockFile,
     ensures history { IfOk result (λ read. IsReplaced replacement.now.lines read.history.files
         read.history.session) }
-    ensures edit { IfOk result (λ read. IsReplacement replacement.now.lines read.history.files
-        read.history.session read.edit) }
+    ensures edit { IfOk result (λ read. IsReplacement replacement.now.lines
+        (pinned_targets replacement.now.pins) read.history.files read.history.session read.edit) }
 {
     let alloc = rt.alloc();
     let files = saved_files(rt, dir)?;
@@ -82,7 +93,15 @@ fn opened_to_save<F: HistoryFolder>(
     files: SavedFiles,
     lines: &LinesRead<'_>,
 ) -> Result<(SavedFiles, Session), Fault>
-    ensures { IfOk result (λ opened. IsOpened lines.now opened.0 opened.1) }
+    requires settled { IsSettled F.held F.may_leave folder.old }
+    requires places { AllAre (F.held folder.old) (F.may_leave folder.old)
+        (λ h. AreInPlace h (bytes_read files)) }
+    requires named { AreNamed files }
+    ensures opened { IfOk result (λ opened. IsOpened lines.now opened.0 opened.1) }
+    ensures places { IfOk result (λ opened. AllAre (F.held folder.new) (F.may_leave folder.new)
+        (λ h. AreInPlace h (bytes_read opened.0))) }
+    ensures repaired { Ran F.held F.may_leave F.moment F.left_since F.faults
+        (IsRepairOf (HasOld lines.now)) (IsRepairOf (HasOld lines.now)) folder.old folder.new }
 {
     match lines {
         LinesRead::Old(old) => files.open_hand_changed(folder, old.as_slice()),
@@ -114,7 +133,9 @@ fn read_handed<'a, R: Files + AllocGlobal, I: Read + Drop>(
     options: EditOptions<'_>,
     input: I,
 ) -> Result<HandedRead<'a>, Fault>
-    ensures { IfOk result (λ read. AreReadFor replacement.now.lines read.lines) }
+    ensures lines { IfOk result (λ read. AreReadFor replacement.now.lines read.lines) }
+    ensures pins { IfOk result
+        (λ read. names_read read.pins.items ≡ pinned_targets replacement.now.pins) }
 {
     let index = read_bytes(rt, InputFile::Index, options.index)?;
     let paths = pins_paths(rt.alloc(), replacement.pins.as_slice())?;
@@ -138,7 +159,7 @@ fn made_of(
     ensures files { IfOk result (λ made. made.history.files ≡ files) }
     ensures session { IfOk result (λ made. made.history.session ≡ session) }
     ensures edit { IfOk result (λ made. Replaces (AreMadeOf read.entry.lines files session)
-        session made.edit) }
+        (names_read read.entry.pins.items) session made.edit) }
 {
     let HandedRead { index, lines, pins } = read;
     let snapshot = in_file(InputFile::Index, read_index(alloc, index.as_slice()))?;
@@ -195,7 +216,8 @@ fn pins_for_targets(
     targets: &[Target],
     read: Vec<NamedBytes<Text>>,
 ) -> Result<Seq<TargetPins>, Fault>
-    ensures { IfOk result (λ pins. ArePinsFor (map without_lock targets.now) pins) }
+    ensures { IfOk result
+        (λ pins. ArePinsFor (names_read read.items) (map without_lock targets.now) pins) }
 {
     let given = lent_targets(alloc, targets)?;
     pins_of(alloc, read, given.as_slice())

@@ -3,6 +3,10 @@
 ghost use Rattle.std.specs.Prelude.{◌≡◌, IfOk};
 ghost use Rattle.calls.specs.Retargets.{IsRetarget, LeadsToNamed};
 ghost use Rattle.files.specs.Beside.{StandFor};
+ghost use Rattle.files.specs.Places.{AllAre, AreInPlace, bytes_read};
+ghost use Rattle.files.specs.Repair.{IsRepairOf};
+ghost use Rattle.folder.specs.Calls.{IsSettled, Ran};
+ghost use Rattle.inputs.specs.PinsFiles.{pinned_targets};
 ghost use Rattle.inputs.specs.TargetFiles.{names_of, names_read};
 
 use crate::read_edit::ReadEdit;
@@ -37,7 +41,9 @@ pub(crate) fn new_target_paths(
     given: &NewTargets,
     targets: Vec<TargetPath>,
 ) -> Result<NewTargetPaths, AllocError>
-    ensures { IfOk result (λ paths. paths.targets ≡ targets) }
+    ensures targets { IfOk result (λ paths. paths.targets ≡ targets) }
+    ensures pins { IfOk result
+        (λ paths. names_of paths.pins.items ≡ pinned_targets given.now.pins) }
 {
     let pins = pins_paths(alloc, given.pins.as_slice())?;
     Ok(NewTargetPaths { targets, pins })
@@ -52,8 +58,15 @@ pub(crate) fn retargeted_to_save<R: Files + AllocGlobal, F: HistoryFolder, I: Re
     options: EditOptions<'_>,
     input: I,
 ) -> Result<ReadEdit, Stop>
+    requires { IsSettled F.held F.may_leave folder.old }
     ensures history { IfOk result (λ read. StandFor read.history.files read.history.session) }
-    ensures edit { IfOk result (λ read. LeadsToNamed paths.targets.items read.edit) }
+    ensures edit { IfOk result (λ read. LeadsToNamed paths.targets.items
+        (names_of paths.pins.items) read.edit) }
+    ensures places { IfOk result (λ read. AllAre (F.held folder.new) (F.may_leave folder.new)
+        (λ h. AreInPlace h (bytes_read read.history.files))) }
+    ensures repaired { Ran F.held F.may_leave F.moment F.left_since F.faults
+        (IsRepairOf (F.may_fail folder.old)) (IsRepairOf (F.may_fail folder.old))
+        folder.old folder.new }
 {
     let files = SavedFiles::read_to_save(&mut *folder)?;
     let read = read_handed(rt, paths, options, input)?;
@@ -72,7 +85,8 @@ pub(crate) fn retargeted<R: Files + AllocGlobal, I: Read + Drop>(
 where
     R::File: LockFile,
     ensures history { IfOk result (λ read. StandFor read.history.files read.history.session) }
-    ensures edit { IfOk result (λ read. LeadsToNamed paths.targets.items read.edit) }
+    ensures edit { IfOk result (λ read. LeadsToNamed paths.targets.items
+        (names_of paths.pins.items) read.edit) }
 {
     let files = saved_files(rt, dir)?;
     let read = read_handed(rt, paths, options, input)?;
@@ -94,8 +108,10 @@ fn read_handed<R: Files + AllocGlobal, I: Read + Drop>(
     options: EditOptions<'_>,
     input: I,
 ) -> Result<HandedRead, Fault>
-    ensures { IfOk result
+    ensures environments { IfOk result
         (λ read. names_read read.environments.items ≡ names_of paths.targets.items) }
+    ensures pins { IfOk result
+        (λ read. names_read read.pins.items ≡ names_of paths.pins.items) }
 {
     let NewTargetPaths { targets, pins } = paths;
     let index = read_bytes(rt, InputFile::Index, options.index)?;
@@ -117,7 +133,8 @@ fn made_of(
 ) -> Result<ReadEdit, Fault>
     ensures files { IfOk result (λ made. made.history.files ≡ files) }
     ensures session { IfOk result (λ made. made.history.session ≡ session) }
-    ensures edit { IfOk result (λ made. IsRetarget read.environments.items made.edit) }
+    ensures edit { IfOk result (λ made. IsRetarget read.environments.items
+        (names_read read.pins.items) made.edit) }
 {
     let HandedRead {
         index,

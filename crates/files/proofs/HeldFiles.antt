@@ -1,5 +1,5 @@
 -- Files of a folder, where it is known what it holds.
-use Rattle.std.proofs.Common.{◌≡◌, ◌∙◌, ◌++◌, ℕ, Bool, true, false, List, [], ◌∷◌, Option, Some, None, Result, Ok, Err, IfOk, IfSome, ap, map, refl, subst, sym}
+use Rattle.std.proofs.Common.{◌≡◌, ◌∙◌, ℕ, Bool, false, List, [], Option, Some, None, Result, Ok, Err, IfOk, IfSome, ap, subst, sym}
 use Rattle.std.specs.BTreeMap.{IsOrdered, insert_entry}
 use Rattle.std.specs.Cmp.Lexicographic.{slice_cmp}
 use Rattle.std.specs.Ordering.{nat_cmp}
@@ -9,16 +9,21 @@ use Rattle.inputs.specs.declared.fault.Fault.TheVariants as faults
 use Rattle.inputs.specs.declared.input_files.InputFile.{InputFile}
 use Rattle.inputs.specs.declared.input_files.InputFile.TheVariants.{Requirements, Lock, Journal}
 use Rattle.journal.specs.Locks.{LockTexts}
-use Rattle.files.proofs.StandingFiles.{one_lock_more, stand_in_place, taken_stand}
-use Rattle.files.specs.Beside.{FilesStandBeside, completed_by, files_of, has, one_where, taken_from}
+use Rattle.files.proofs.StandingFiles.{has-none, one_lock_more, stand_same, taken_stand}
+use Rattle.files.specs.Beside.{FilesStandBeside, completed_by, files_of, has, taken_from}
 use Rattle.files.specs.Places.{AreInPlace, FileBytes, LocksStandAt, StandAt, bytes_read, standing}
 use Rattle.files.specs.declared.beside.Beside.{Beside}
 use Rattle.files.specs.declared.saved_files.SavedFiles.{SavedFiles}
 
 -- what holds of what is held, and leads to another thing
-held_also : (held : Option Held) (P Q : Held → Type 0) → ((h : Held) → P h → Q h) → IfSome held P → IfSome held Q
+pub held_also : (held : Option Held) (P Q : Held → Type 0) → ((h : Held) → P h → Q h) → IfSome held P → IfSome held Q
 held_also None P Q also is = tt
 held_also (Some h) P Q also is = also h is
+
+-- no lock has to stand there
+pub no_lock_held : (held : Option Held) (is_beside : InputFile → Bool) (locks : LockTexts) → locks ≡ [] → IfSome held (λ h. LocksStandAt is_beside h locks)
+no_lock_held None is_beside locks empty = tt
+no_lock_held (Some h) is_beside locks empty = subst (LocksStandAt is_beside h) (sym empty) tt
 
 -- a lock that stands there stands with those that do
 pub one_lock_more_held : (held : Option Held) (is_beside : InputFile → Bool) (locks new : LockTexts) (name copy bytes text : List ℕ) → copy ≡ name → text ≡ bytes → new ≡ insert_entry (slice_cmp nat_cmp) locks name text
@@ -39,24 +44,9 @@ pub stand_held : (held : Option Held) (is_beside : InputFile → Bool) (files : 
 stand_held None is_beside files requirements locks journal = tt
 stand_held (Some h) is_beside files requirements locks journal = record { requirements = requirements; locks = locks; journal = journal }
 
--- ---- no file beside
-
-record NoneOf (requirements : Bool) (names : List (List ℕ)) (journal : Bool) : Type 0 where
-  no_requirements : requirements ≡ false
-  no_locks : names ≡ []
-  no_journal : journal ≡ false
-
-none_of : (requirements journal : Bool) (names : List (List ℕ)) → one_where requirements Requirements ++ map (λ name. Lock name) names ++ one_where journal Journal ≡ [] → NoneOf requirements names journal
-none_of true journal names none = absurd (cc none)
-none_of false journal (name ∷ names) none = absurd (cc none)
-none_of false true [] none = absurd (cc none)
-none_of false false [] none = record { no_requirements = refl; no_locks = refl; no_journal = refl }
-
 -- where no file is taken from beside its place, all stand in their places
-pub in_place_held : (held : Option Held) (beside : Beside) (files : FileBytes) → files_of beside ≡ [] → IfSome held (λ h. StandAt (has beside) h files) → IfSome held (λ h. AreInPlace h files)
-in_place_held held beside files none stand =
-    let no : NoneOf beside.requirements beside.locks.keys beside.journal = none_of beside.requirements beside.journal beside.locks.keys none in
-    held_also held (λ h. StandAt (has beside) h files) (λ h. AreInPlace h files) (λ h. stand_in_place beside h files no.no_requirements no.no_locks no.no_journal) stand
+in_place_held : (held : Option Held) (beside : Beside) (files : FileBytes) → files_of beside ≡ [] → IfSome held (λ h. StandAt (has beside) h files) → IfSome held (λ h. AreInPlace h files)
+in_place_held held beside files none stand = held_also held (λ h. StandAt (has beside) h files) (λ h. AreInPlace h files) (λ h. stand_same (has beside) (λ file. false) h files (has-none beside none)) stand
 
 -- the same of files that were read
 pub read_in_place : (held : Option Held) (beside : Beside) (result : Result SavedFiles Fault) → files_of beside ≡ [] → IfOk result (λ files. IfSome held (λ h. StandAt (has beside) h (bytes_read files)))

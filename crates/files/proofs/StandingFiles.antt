@@ -18,7 +18,7 @@ use Rattle.inputs.specs.declared.input_files.InputFile.{InputFile}
 use Rattle.inputs.specs.declared.input_files.InputFile.TheVariants.{Requirements, Lock, Journal}
 use Rattle.journal.specs.Locks.{LockTexts}
 use Rattle.files.proofs.NamesApart.{differs, journal-apart, one-target, requirements-apart}
-use Rattle.files.specs.Beside.{FilesStandBeside, has, one_where, taken_from}
+use Rattle.files.specs.Beside.{FilesStandBeside, files_of, has, one_where, taken_from}
 use Rattle.files.specs.Places.{AreInPlace, AreKnown, FileBytes, LocksStandAt, StandAt, bytes_read, standing}
 use Rattle.files.specs.declared.beside.Beside.{Beside}
 use Rattle.files.specs.declared.saved_files.SavedFiles.{SavedFiles}
@@ -52,15 +52,38 @@ known h f are = record { requirements = are.requirements; locks = are.locks; jou
 moved : (a b : Bool) (h : Held) (file : InputFile) (bytes : Option (List ℕ)) → a ≡ b → standing a h file ≡ bytes → standing b h file ≡ bytes
 moved a b h file bytes same is = subst (λ (c : Bool). standing c h file ≡ bytes) same is
 
--- where none is taken from beside its place, all stand in their places
-pub stand_in_place : (beside : Beside) (h : Held) (f : FileBytes) → beside.requirements ≡ false → beside.locks.keys ≡ [] → beside.journal ≡ false → StandAt (has beside) h f → AreInPlace h f
-stand_in_place beside h f no_requirements no_locks no_journal stand = record {
-  requirements = moved beside.requirements false h Requirements (Some f.requirements) no_requirements stand.requirements;
+-- files stand there where all of them are told to stand at the same places
+pub stand_same : (a b : InputFile → Bool) (h : Held) (f : FileBytes) → ((file : InputFile) → a file ≡ b file) → StandAt a h f → StandAt b h f
+stand_same a b h f same stand = record {
+  requirements = moved (a Requirements) (b Requirements) h Requirements (Some f.requirements) (same Requirements) stand.requirements;
   locks =
-      all_also (λ (lock : List ℕ × List ℕ). standing (has beside (Lock lock.0)) h (Lock lock.0) ≡ Some lock.1) (λ (lock : List ℕ × List ℕ). standing false h (Lock lock.0) ≡ Some lock.1) f.locks
-      (λ lock is. moved (has beside (Lock lock.0)) false h (Lock lock.0) (Some lock.1) (ap (λ (names : List (List ℕ)). list_any (λ other. is_eq (slice_cmp nat_cmp lock.0 other)) names) no_locks) is) stand.locks;
-  journal = moved beside.journal false h Journal (Some f.journal) no_journal stand.journal;
+      all_also (λ (lock : List ℕ × List ℕ). standing (a (Lock lock.0)) h (Lock lock.0) ≡ Some lock.1) (λ (lock : List ℕ × List ℕ). standing (b (Lock lock.0)) h (Lock lock.0) ≡ Some lock.1) f.locks
+      (λ lock is. moved (a (Lock lock.0)) (b (Lock lock.0)) h (Lock lock.0) (Some lock.1) (same (Lock lock.0)) is) stand.locks;
+  journal = moved (a Journal) (b Journal) h Journal (Some f.journal) (same Journal) stand.journal;
 }
+
+-- ---- no file beside
+
+record NoneOf (requirements : Bool) (names : List (List ℕ)) (journal : Bool) : Type 0 where
+  no_requirements : requirements ≡ false
+  no_locks : names ≡ []
+  no_journal : journal ≡ false
+
+none_of : (requirements journal : Bool) (names : List (List ℕ)) → one_where requirements Requirements ++ map (λ name. Lock name) names ++ one_where journal Journal ≡ [] → NoneOf requirements names journal
+none_of true journal names none = absurd (cc none)
+none_of false journal (name ∷ names) none = absurd (cc none)
+none_of false true [] none = absurd (cc none)
+none_of false false [] none = record { no_requirements = refl; no_locks = refl; no_journal = refl }
+
+none-has : (beside : Beside) → NoneOf beside.requirements beside.locks.keys beside.journal → (file : InputFile) → has beside file ≡ false
+none-has beside none Requirements = none.no_requirements
+none-has beside none (Lock name) = ap (λ (names : List (List ℕ)). list_any (λ other. is_eq (slice_cmp nat_cmp name other)) names) none.no_locks
+none-has beside none Journal = none.no_journal
+none-has beside none file = refl
+
+-- where no file is taken from beside its place, none is told to be
+pub has-none : (beside : Beside) → files_of beside ≡ [] → (file : InputFile) → has beside file ≡ false
+has-none beside none = none-has beside (none_of beside.requirements beside.journal beside.locks.keys none)
 
 -- ---- beside their places
 

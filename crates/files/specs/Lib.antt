@@ -1,6 +1,9 @@
 pub mod Beside
+pub mod FirstTargets
+pub mod JournalLocks
 pub mod NamedRewrites
 pub mod Places
+pub mod Repair
 pub mod RewriteParts
 pub mod Rewrites
 pub mod Saving

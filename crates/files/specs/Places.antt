@@ -14,6 +14,8 @@ use Rattle.journal.specs.Locks.{LockTexts}
 use Rattle.journal.specs.Opens.{Opens}
 use Rattle.journal.specs.Saved.{IsSaved, OpensAs}
 use Rattle.journal.specs.declared.saved.Saved.{Saved}
+use Rattle.files.specs.JournalLocks.{AreOfJournal}
+use Rattle.files.specs.TargetLocks.{is_among}
 use Rattle.files.specs.declared.saved_files.SavedFiles.{SavedFiles}
 
 -- the bytes of a requirements file, of locks by the names of their targets, and of a journal
@@ -21,6 +23,10 @@ pub record FileBytes : Type 0 where
   pub requirements : List ℕ
   pub locks : LockTexts
   pub journal : List ℕ
+
+-- the locks that were read are those that the journal names
+abbrev pub AreNamed : SavedFiles → Type 0
+AreNamed files = AreOfJournal files.journal files.locks.entries
 
 -- those that were read, and those that are saved
 abbrev pub bytes_read : SavedFiles → FileBytes
@@ -48,6 +54,18 @@ pub record StandAt (is_beside : InputFile → Bool) (held : Held) (files : FileB
 abbrev pub IsUnread : Option Held → Type 0 → Bool → InputFile → Fault → Type 0
 IsUnread held may_fail is_beside file fault =
     (fault ≡ OutOfMemory) ⊎ (((why : Unread) × (fault ≡ Input file (Unreadable why))) × (may_fail ⊎ IfSome held (λ h. standing is_beside h file ≡ None)))
+
+-- no lock stands there of one of these names
+abbrev pub LacksLock : (InputFile → Bool) → List (List ℕ) → Held → Type 0
+LacksLock is_beside names held = (name : List ℕ) × (is_among names name ≡ true) × (standing (is_beside (Lock name)) held (Lock name) ≡ None)
+
+-- no files stand there with the locks that their journal names
+abbrev pub NoFilesStand : (InputFile → Bool) → Held → Type 0
+NoFilesStand is_beside held = (files : FileBytes) → StandAt is_beside held files → AreOfJournal files.journal files.locks → ⊥
+
+-- files aren't read for want of memory, or as a read may fail, or as this is so of what is held
+abbrev pub AreUnread : Option Held → Type 0 → (Held → Type 0) → Fault → Type 0
+AreUnread held may_fail Is fault = (fault ≡ OutOfMemory) ⊎ (may_fail ⊎ IfSome held Is)
 
 -- why a save fails: a file can't be written, or for want of memory
 abbrev pub IsUnsaved : Fault → Type 0

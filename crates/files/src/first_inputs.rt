@@ -1,10 +1,11 @@
 // What a history begins with.
 
 ghost use Rattle.std.specs.Prelude.{◌≡◌, IfOk, IfSome, Ok, map};
+ghost use Rattle.files.specs.FirstTargets.{AreTargetsOf};
 ghost use Rattle.files.specs.Places.{AreKnown, bytes_read};
 ghost use Rattle.inputs.specs.Inputs.{requirements_in};
 ghost use Rattle.inputs.specs.PinsFiles.{ArePinsFor, given_by};
-ghost use Rattle.inputs.specs.TargetFiles.{targets_in};
+ghost use Rattle.inputs.specs.TargetFiles.{names_of, names_read, targets_in};
 
 use crate::history_folder::HistoryFolder;
 use crate::saved_files::SavedFiles;
@@ -51,6 +52,9 @@ pub fn first_inputs<R: Files + AllocGlobal, F: HistoryFolder, I: Read + Drop>(
         (λ h. AreKnown h (bytes_read first.files))) }
     ensures lines { IfOk result
         (λ first. requirements_in first.files.requirements.items ≡ Ok first.lines) }
+    ensures first { IfOk result
+        (λ first. AreTargetsOf (names_of paths.entry.targets.items)
+        (names_of paths.entry.pins.items) first.first) }
 {
     let alloc = rt.alloc();
     let FirstPaths {
@@ -82,7 +86,8 @@ pub fn targets_with_pins(
     pins: Vec<NamedBytes<Text>>,
 ) -> Result<FirstTargets, Fault>
     ensures targets { IfOk result (λ first. targets_in environments.items ≡ Ok first.targets) }
-    ensures pins { IfOk result (λ first. ArePinsFor first.targets first.pins) }
+    ensures pins { IfOk result
+        (λ first. ArePinsFor (names_read pins.items) first.targets first.pins) }
 {
     let targets = targets_of(alloc, environments)?;
     let pins = pins_of(alloc, pins, named_targets(alloc, &targets)?.as_slice())?;

@@ -5,7 +5,7 @@ ghost use Rattle.files.specs.TargetLocks.{AreGone, has_gone, has_target, is_told
 
 use crate::beside::Beside;
 use crate::history_folder::HistoryFolder;
-use crate::saved_files::{journal_in, names_in};
+use crate::reading::{journal_in, names_in};
 use edits::{Change, Target, TargetName};
 use inputs::{Fault, InputFile};
 use journal::Session;

@@ -15,6 +15,7 @@ mod going_locks;
 pub mod held;
 mod history_folder;
 mod links_out;
+mod reading;
 mod rewrite;
 mod saved_files;
 pub mod saved_history;

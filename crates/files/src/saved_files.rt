@@ -1,27 +1,27 @@
 // The files of the folder: the requirements file, the lock of each target, and the journal.
 
 ghost use Rattle.std.specs.BTreeMap.{IsOrdered};
+ghost use Rattle.std.specs.Bool.{⊤};
 ghost use Rattle.std.specs.Cmp.Lexicographic.{slice_cmp};
 ghost use Rattle.std.specs.Option.{option_map_or};
 ghost use Rattle.std.specs.Ordering.{nat_cmp};
-ghost use Rattle.std.specs.Prelude.{◌≡◌, ◌⊎◌, ◌++◌, [], IfErr, IfOk, IfSome, OnOk, Ok, Err, Some, string_bytes, ℕ};
-ghost use Rattle.folder.specs.Calls.{Ran};
-ghost use Rattle.journal.specs.Opens.{NamesTargets, Opens, ToldBy};
-ghost use Rattle.states.specs.declared.refusal.Refusal.TheVariants.{JournalBroken};
+ghost use Rattle.std.specs.Prelude.{◌≡◌, ◌++◌, IfErr, IfOk, IfSome, IsSome, OnOk, Ok, Err, Some, string_bytes};
+ghost use Rattle.folder.specs.Calls.{IsSettled, Ran};
+ghost use Rattle.journal.specs.Opens.{Opens, ToldBy};
 ghost use Rattle.files.specs.Beside.{StandFor, has, taken_from};
-ghost use Rattle.files.specs.Places.{AllAre, AreInPlace, AreKnown, IsUnread, IsUnsaved, LocksStandAt, StandAt, bytes_read, standing};
+ghost use Rattle.files.specs.Places.{AllAre, AreInPlace, AreKnown, AreNamed, AreUnread, IsUnsaved, NoFilesStand, StandAt, bytes_read};
+ghost use Rattle.files.specs.Repair.{IsRepairOf, NoneStands};
 ghost use Rattle.files.specs.Saving.{IsBeingSavedOver, IsSavedOver};
-ghost use Rattle.inputs.specs.declared.input_files.InputFile.TheVariants as input_files;
 ghost use Rattle.inputs.specs.Faults.{TellsFault};
 ghost use Rattle.files.specs.NamedRewrites.{AreNamedApart};
 ghost use Rattle.files.specs.Rewrites.{going_of, has_lock, is_known, is_left, lock_rewrites, rewrites_of, rewriting};
-ghost use Rattle.inputs.specs.declared.fault.Fault.TheVariants.{OutOfMemory};
 
 use crate::beside::{Beside, push_where};
 use crate::history_folder::HistoryFolder;
+use crate::reading::{journal_in, locks_in, names_in, read_in};
 use crate::rewrite::{Rewrite, rewrite_all};
 use crate::stopped_save::{end_stopped, remove_left_of_opened};
-use edits::{Refusal, TargetName};
+use edits::TargetName;
 use inputs::{Fault, InputFile};
 use journal::{Journal, Saved, Session, Told};
 use lists::{Seq, Text};
@@ -40,8 +40,11 @@ impl SavedFiles {
     /// Reads the files of a folder: the requirements file first, then the journal, and the locks last,
     /// in the order of the names that the journal has.
     pub fn read<F: HistoryFolder>(folder: &F) -> Result<SavedFiles, Fault>
-        ensures { IfOk result (λ files. IfSome (F.held folder.now)
+        ensures places { IfOk result (λ files. IfSome (F.held folder.now)
             (λ h. AreInPlace h (bytes_read files))) }
+        ensures named { IfOk result AreNamed }
+        ensures unread { IfErr result
+            (AreUnread (F.held folder.now) (F.may_fail folder.now) NoneStands) }
     {
         SavedFiles::read_with(folder, &Beside::none(folder.alloc()))
     }
@@ -49,8 +52,14 @@ impl SavedFiles {
     /// Reads the files to save others in their place. Where one can't be read, a save may have been
     /// stopped: then that is ended first.
     pub fn read_to_save<F: HistoryFolder>(folder: &mut F) -> Result<SavedFiles, Fault>
-        ensures { IfOk result (λ files. IfSome (F.held folder.new)
+        requires { IsSettled F.held F.may_leave folder.old }
+        ensures places { IfOk result (λ files. AllAre (F.held folder.new) (F.may_leave folder.new)
             (λ h. AreInPlace h (bytes_read files))) }
+        ensures named { IfOk result AreNamed }
+        ensures settled { OnOk result (IsSettled F.held F.may_leave folder.new) }
+        ensures repaired { Ran F.held F.may_leave F.moment F.left_since F.faults
+            (IsRepairOf (F.may_fail folder.old)) (IsRepairOf (F.may_fail folder.old))
+            folder.old folder.new }
     {
         match SavedFiles::read(&*folder) {
             Err(Fault::Input(file, fault)) => {
@@ -81,8 +90,11 @@ impl SavedFiles {
 
     /// Reads the files, and of these the one that stands beside its place.
     pub fn read_with<F: HistoryFolder>(folder: &F, beside: &Beside) -> Result<SavedFiles, Fault>
-        ensures { IfOk result (λ files. IfSome (F.held folder.now)
+        ensures stand { IfOk result (λ files. IfSome (F.held folder.now)
             (λ h. StandAt (has beside.now) h (bytes_read files))) }
+        ensures named { IfOk result AreNamed }
+        ensures unread { IfErr result (AreUnread (F.held folder.now) (F.may_fail folder.now)
+            (NoFilesStand (has beside.now))) }
     {
         let requirements = read_in(folder, InputFile::Requirements, beside)?;
         let journal = journal_in(folder, beside)?;
@@ -143,7 +155,15 @@ impl SavedFiles {
         self,
         folder: &mut F,
     ) -> Result<(SavedFiles, Session), Fault>
-        ensures { IfOk result (λ opened. StandFor opened.0 opened.1) }
+        requires settled { IsSettled F.held F.may_leave folder.old }
+        requires places { AllAre (F.held folder.old) (F.may_leave folder.old)
+            (λ h. AreInPlace h (bytes_read self)) }
+        requires named { AreNamed self }
+        ensures stand { IfOk result (λ opened. StandFor opened.0 opened.1) }
+        ensures places { IfOk result (λ opened. AllAre (F.held folder.new)
+            (F.may_leave folder.new) (λ h. AreInPlace h (bytes_read opened.0))) }
+        ensures repaired { Ran F.held F.may_leave F.moment F.left_since F.faults
+            (IsRepairOf ⊥) (IsRepairOf ⊥) folder.old folder.new }
     {
         self.open_over_to_save(folder, None)
     }
@@ -154,8 +174,16 @@ impl SavedFiles {
         folder: &mut F,
         old: &[u8],
     ) -> Result<(SavedFiles, Session), Fault>
-        ensures { IfOk result (λ opened. Opens old.now opened.0.locks.entries opened.0.journal
-            (Ok opened.1)) }
+        requires settled { IsSettled F.held F.may_leave folder.old }
+        requires places { AllAre (F.held folder.old) (F.may_leave folder.old)
+            (λ h. AreInPlace h (bytes_read self)) }
+        requires named { AreNamed self }
+        ensures opens { IfOk result (λ opened. Opens old.now opened.0.locks.entries
+            opened.0.journal (Ok opened.1)) }
+        ensures places { IfOk result (λ opened. AllAre (F.held folder.new)
+            (F.may_leave folder.new) (λ h. AreInPlace h (bytes_read opened.0))) }
+        ensures repaired { Ran F.held F.may_leave F.moment F.left_since F.faults
+            (IsRepairOf ⊤) (IsRepairOf ⊤) folder.old folder.new }
     {
         self.open_over_to_save(folder, Some(old))
     }
@@ -166,9 +194,17 @@ impl SavedFiles {
         folder: &mut F,
         requirements: Option<&[u8]>,
     ) -> Result<(SavedFiles, Session), Fault>
-        ensures { IfOk result (λ opened. Opens
+        requires settled { IsSettled F.held F.may_leave folder.old }
+        requires places { AllAre (F.held folder.old) (F.may_leave folder.old)
+            (λ h. AreInPlace h (bytes_read self)) }
+        requires named { AreNamed self }
+        ensures opens { IfOk result (λ opened. Opens
             (option_map_or (λ text. text.now) requirements.entry opened.0.requirements.items)
             opened.0.locks.entries opened.0.journal (Ok opened.1)) }
+        ensures places { IfOk result (λ opened. AllAre (F.held folder.new)
+            (F.may_leave folder.new) (λ h. AreInPlace h (bytes_read opened.0))) }
+        ensures repaired { Ran F.held F.may_leave F.moment F.left_since F.faults
+            (IsRepairOf (IsSome requirements.entry)) (IsRepairOf (IsSome requirements.entry)) folder.old folder.new }
     {
         match self.open_over(folder.alloc(), requirements) {
             Ok(session) => {
@@ -213,10 +249,11 @@ impl SavedFiles {
     /// Saves a history in the place of these files. A file that doesn't change isn't touched, and the lock of a
     /// target that the history hasn't any more is removed.
     pub fn rewrite<F: HistoryFolder>(&self, folder: &mut F, session: &Session) -> Result<(), Fault>
-        ensures saved { AllAre (F.held folder.old) (F.may_leave folder.old)
-            (λ h. AreKnown h (bytes_read self.now)) → OnOk result (Ran F.held F.may_leave
-            F.moment F.left_since F.faults (IsSavedOver self.now session.now)
-            (IsBeingSavedOver self.now session.now) folder.old folder.new) }
+        requires { AllAre (F.held folder.old) (F.may_leave folder.old)
+            (λ h. AreKnown h (bytes_read self.now)) }
+        ensures saved { OnOk result (Ran F.held F.may_leave F.moment F.left_since F.faults
+            (IsSavedOver self.now session.now) (IsBeingSavedOver self.now session.now)
+            folder.old folder.new) }
         ensures any_moment { Ran F.held F.may_leave F.moment F.left_since F.faults
             (IsBeingSavedOver self.now session.now) (IsBeingSavedOver self.now session.now)
             folder.old folder.new }
@@ -330,59 +367,4 @@ fn push_unless<'a>(
     let bytes = text.as_bytes();
     files.push(Rewrite { file, bytes })?;
     Ok(())
-}
-
-/// The names of the targets that a journal has. A broken one has none: what is broken is told where it
-/// is opened.
-pub fn names_in(alloc: Global, journal: &Journal) -> Result<Seq<TargetName>, Fault>
-    ensures names { IfOk result (λ names. NamesTargets journal.now (Ok names)
-        ⊎ ((names ≡ []) × (line : ℕ) × NamesTargets journal.now (Err (JournalBroken line)))) }
-    ensures memory { IfErr result (λ fault. fault ≡ OutOfMemory) }
-{
-    match journal.targets(alloc) {
-        Ok(names) => Ok(names),
-        Err(Refusal::JournalBroken(_)) => Ok(Seq::new(alloc)),
-        Err(refusal) => Err(Fault::from(refusal)),
-    }
-}
-
-/// The locks of targets, in their places or, where they are among these, beside them.
-fn locks_in<F: HistoryFolder>(
-    folder: &F,
-    names: Seq<TargetName>,
-    beside: &Beside,
-) -> Result<BTreeMap<TargetName, Seq<u8>>, Fault>
-    ensures { IfOk result (λ locks. IfSome (F.held folder.now)
-        (λ h. LocksStandAt (has beside.now) h locks.entries)) }
-{
-    let mut locks = BTreeMap::new(folder.alloc());
-    for name in names.into_vec() {
-        let lock = read_in(folder, InputFile::Lock(name.clone()?), beside)?;
-        locks.insert(name, Seq::from_vec(lock))?;
-    }
-    Ok(locks)
-}
-
-/// The journal, in its place or, where it is among these, beside it.
-pub fn journal_in<F: HistoryFolder>(folder: &F, beside: &Beside) -> Result<Journal, Fault>
-    ensures { IfOk result (λ journal. IfSome (F.held folder.now)
-        (λ h. standing (has beside.now input_files.Journal) h input_files.Journal ≡ Some journal)) }
-{
-    let bytes = read_in(folder, InputFile::Journal, beside)?;
-    Ok(Journal::read(folder.alloc(), Seq::from_vec(bytes))?)
-}
-
-/// The bytes of a file, in its place or, where it is among these, beside it.
-pub fn read_in<F: HistoryFolder>(
-    folder: &F,
-    file: InputFile,
-    beside: &Beside,
-) -> Result<Vec<u8>, Fault>
-    ensures bytes { IfOk result (λ bytes. IfSome (F.held folder.now)
-        (λ h. standing (has beside.now file) h file ≡ Some bytes.items)) }
-    ensures fault { IfErr result
-        (IsUnread (F.held folder.now) (F.may_fail folder.now) (has beside.now file) file) }
-{
-    let is_beside = beside.has(&file);
-    folder.read(file, is_beside)
 }

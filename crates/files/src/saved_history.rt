@@ -1,7 +1,10 @@
 // The history that the files of a folder stand for, with an index or without.
 
 ghost use Rattle.std.specs.Prelude.{IfOk};
+ghost use Rattle.folder.specs.Calls.{IsSettled, Ran};
 ghost use Rattle.files.specs.Beside.{SomeStandFor, StandFor};
+ghost use Rattle.files.specs.Places.{AllAre, AreInPlace, bytes_read};
+ghost use Rattle.files.specs.Repair.{IsRepairOf};
 
 use crate::disk::Disk;
 use crate::history_folder::HistoryFolder;
@@ -61,7 +64,13 @@ pub fn history_to_save<R: Files + AllocGlobal, F: HistoryFolder>(
     folder: &mut F,
     index: &str,
 ) -> Result<SavedHistory, Fault>
-    ensures { IfOk result (λ saved. StandFor saved.files saved.session) }
+    requires { IsSettled F.held F.may_leave folder.old }
+    ensures stand { IfOk result (λ saved. StandFor saved.files saved.session) }
+    ensures places { IfOk result (λ saved. AllAre (F.held folder.new) (F.may_leave folder.new)
+        (λ h. AreInPlace h (bytes_read saved.files))) }
+    ensures repaired { Ran F.held F.may_leave F.moment F.left_since F.faults
+        (IsRepairOf (F.may_fail folder.old)) (IsRepairOf (F.may_fail folder.old))
+        folder.old folder.new }
 {
     let alloc = rt.alloc();
     let files = SavedFiles::read_to_save(&mut *folder)?;

@@ -1,17 +1,19 @@
 // A save that was stopped between two files, and what is left of it beside the places of the others.
 
 ghost use Rattle.std.specs.Prelude.{◌≡◌, IfOk, IfSome, IsSomeAnd, OnOk};
-ghost use Rattle.folder.specs.Calls.{Stays};
-ghost use Rattle.folder.specs.Repairs.{AreBeside};
+ghost use Rattle.folder.specs.Calls.{IsSettled, Ran, Stays};
+ghost use Rattle.folder.specs.Repairs.{AreBeside, IsMoveOf};
 ghost use Rattle.journal.specs.Past.{IsAtEnd, IsRedone, IsUndone, present};
 ghost use Rattle.files.specs.Beside.{FilesStandBeside, completed_by, has, has_lines, has_requirements};
 ghost use Rattle.files.specs.Places.{StandAt, bytes_read};
+ghost use Rattle.files.specs.Repair.{IsRemoved};
 
 use crate::beside::Beside;
 use crate::going_locks::going_with;
 use crate::history_folder::HistoryFolder;
+use crate::reading::{journal_in, names_in};
 use crate::rewrite::names_of_all;
-use crate::saved_files::{SavedFiles, journal_in, names_in};
+use crate::saved_files::SavedFiles;
 use folder::{Left, clear_names, end_save};
 use inputs::{Fault, InputFile};
 use journal::{Command, Journal, Reply, Session};
@@ -25,7 +27,12 @@ const LEFT_BESIDE: [(bool, bool); 4] = [(false, true), (false, false), (true, tr
 
 /// Ends a save that was stopped, where the files, which stand for no history in their places, open with those in place
 /// that it left beside. It answers whether there was one.
-pub fn end_stopped<F: HistoryFolder>(folder: &mut F) -> Result<bool, Fault> {
+pub fn end_stopped<F: HistoryFolder>(folder: &mut F) -> Result<bool, Fault>
+    ensures moved { Ran F.held F.may_leave F.moment F.left_since F.faults IsMoveOf IsMoveOf
+        folder.old folder.new }
+    ensures settled { OnOk result (IsSettled F.held F.may_leave folder.old
+        → IsSettled F.held F.may_leave folder.new) }
+{
     let Some(left) = left_in(&mut *folder)? else {
         return Ok(false);
     };
@@ -79,7 +86,12 @@ fn found_in<F: HistoryFolder>(folder: &F) -> Result<Option<Found>, Fault>
 /// Ends a save that was stopped, for a call that doesn't open the files. What opens as it stands stays,
 /// and so does what nothing makes whole. It answers which files can be left beside their places: of the locks, those
 /// that the journal names, in its place and beside it.
-pub fn end_left<F: HistoryFolder>(folder: &mut F) -> Result<Beside, Fault> {
+pub fn end_left<F: HistoryFolder>(folder: &mut F) -> Result<Beside, Fault>
+    ensures moved { Ran F.held F.may_leave F.moment F.left_since F.faults IsMoveOf IsMoveOf
+        folder.old folder.new }
+    ensures settled { OnOk result (IsSettled F.held F.may_leave folder.old
+        → IsSettled F.held F.may_leave folder.new) }
+{
     let named = named_files(&*folder)?;
     if is_any_left(&*folder, &named)? && does_not_open(&*folder)? {
         end_stopped(folder)?;
@@ -92,7 +104,10 @@ pub fn end_left<F: HistoryFolder>(folder: &mut F) -> Result<Beside, Fault> {
 pub fn remove_left_of_opened<F: HistoryFolder>(
     folder: &mut F,
     session: &Session,
-) -> Result<(), Fault> {
+) -> Result<(), Fault>
+    ensures { Ran F.held F.may_leave F.moment F.left_since F.faults IsRemoved IsRemoved
+        folder.old folder.new }
+{
     let mut left = Beside::of(folder.alloc(), true, true);
     add_named(&*folder, &mut left, true)?;
     remove_left(folder, left, session)
@@ -103,7 +118,10 @@ pub fn remove_left<F: HistoryFolder>(
     folder: &mut F,
     left: Beside,
     session: &Session,
-) -> Result<(), Fault> {
+) -> Result<(), Fault>
+    ensures { Ran F.held F.may_leave F.moment F.left_since F.faults IsRemoved IsRemoved
+        folder.old folder.new }
+{
     let files = files_left(folder.alloc(), left, session)?;
     let names = folder.add_beside(files)?;
     clear_names(folder, names.as_slice());

@@ -1,9 +1,9 @@
 -- Files by name, and what is the same but beside some names.
-use Rattle.std.proofs.Common.{◌≡◌, ◌<◌, ◌||◌, ℕ, zero, suc, Bool, true, false, List, [], ◌∷◌, Option, Some, None, Result, Ok, Err, OnErr, get_or, length, take, if◌then◌else◌, refl, sym, ap, ◌∙◌, inl, inr, arith, true≢false}
+use Rattle.std.proofs.Common.{◌≡◌, ◌⊎◌, ◌<◌, ◌||◌, ℕ, zero, suc, Bool, true, false, List, [], ◌∷◌, Option, Some, None, Result, Ok, Err, OnErr, get_or, length, take, if◌then◌else◌, refl, sym, subst, ap, ◌∙◌, inl, inr, arith, true≢false}
 use Rattle.std.proofs.lemmas.Bool.{cases_Bool}
 use Rattle.std.proofs.lemmas.Slice.Eq.{bytes_eq-Decides}
 use Rattle.std.specs.Str.{bytes_eq}
-use Rattle.folder.specs.Held.{Files, Held, IsSameBut, cleared, is_among, staged, with_file}
+use Rattle.folder.specs.Held.{Files, Held, IsCleared, IsSameBut, cleared, is_among, staged, with_file}
 use Rattle.folder.specs.Saves.{AreApart, NewFileParts, names_of, with_all, without_all}
 
 -- ---- tests
@@ -86,6 +86,38 @@ same_but-staged name bytes h = record { placed = refl; beside = λ x other. with
 
 pub same_but-cleared : (name : List ℕ) (h : Held) → IsSameBut (name ∷ []) h (cleared name h)
 same_but-cleared name h = record { placed = refl; beside = λ x other. with_other h.beside name None x (or_left_false (bytes_eq name x) false other) }
+
+-- what is removed from beside a place, or not, changes nothing but that
+pub same_but-either : (name : List ℕ) (h k : Held) → (k ≡ h) ⊎ (k ≡ cleared name h) → IsSameBut (name ∷ []) h k
+same_but-either name h k (inl same) = subst (λ (x : Held). IsSameBut (name ∷ []) h x) (sym same) (same_but-refl (name ∷ []) h)
+same_but-either name h k (inr done) = subst (λ (x : Held). IsSameBut (name ∷ []) h x) (sym done) (same_but-cleared name h)
+
+-- ---- what is removed from beside the places
+
+pub cleared-refl : (names : List (List ℕ)) (h : Held) → IsCleared names h h
+cleared-refl names h = record { placed = refl; beside = λ name. inl refl }
+
+pub cleared-both : (names : List (List ℕ)) (h k m : Held) → IsCleared names h k → IsCleared names k m → IsCleared names h m
+cleared-both names h k m a b = record {
+  placed = b.placed ∙ a.placed;
+  beside = λ name. elim (b.beside name) [
+    | inl same ↦ elim (a.beside name) [ inl is ↦ inl (same ∙ is) | inr gone ↦ inr (gone.0, same ∙ gone.1) ]
+    | inr gone ↦ inr gone
+  ];
+}
+
+cleared-this : (names : List (List ℕ)) (name : List ℕ) (h : Held) → is_among names name ≡ true → IsCleared names h (cleared name h)
+cleared-this names name h is = record { placed = refl; beside = at }
+  where
+    at : (x : List ℕ) → (with_file h.beside name None x ≡ h.beside x) ⊎ ((is_among names x ≡ true) × (with_file h.beside name None x ≡ None))
+    at x = elim (cases_Bool (bytes_eq name x)) [
+      | inl same ↦ inr (ap (λ (n : List ℕ). is_among names n) (sym ((bytes_eq-Decides name x).0 same)) ∙ is, ap (λ (b : Bool). if b then None else h.beside x) same)
+      | inr differ ↦ inl (with_other h.beside name None x differ)
+    ]
+
+pub cleared-either : (names : List (List ℕ)) (name : List ℕ) (h k : Held) → is_among names name ≡ true → (k ≡ h) ⊎ (k ≡ cleared name h) → IsCleared names h k
+cleared-either names name h k is (inl same) = subst (λ (x : Held). IsCleared names h x) (sym same) (cleared-refl names h)
+cleared-either names name h k is (inr done) = subst (λ (x : Held). IsCleared names h x) (sym done) (cleared-this names name h is)
 
 -- ---- many files at once
 

@@ -1,8 +1,8 @@
 -- How far a repair has come, and what it leaves.
-use Rattle.std.proofs.Common.{◌≡◌, ◌⊎◌, ℕ, List, Option, Some, None, IfSome, true, false, refl, sym, subst, ap, ◌∙◌, inl, inr, arith, length, take, take_all}
+use Rattle.std.proofs.Common.{◌≡◌, ℕ, List, Option, Some, None, IfSome, true, false, refl, sym, subst, ap, ◌∙◌, inl, inr, arith, length, take, take_all}
 use Rattle.folder.specs.Calls.{Follows, GoTogether, IsDone, IsSettled}
-use Rattle.folder.specs.Held.{Held, in_turn, is_among, removed, renamed}
-use Rattle.folder.specs.Repairs.{AreAmong, AreBeside, HasSamePlaces, IsBetween, IsEnding, IsMoveOf, IsRepairOf, LeftParts, finished}
+use Rattle.folder.specs.Held.{Held, IsCleared, in_turn, is_among, removed, renamed}
+use Rattle.folder.specs.Repairs.{AreAmong, AreBeside, IsBetween, IsEnding, IsMoveOf, LeftParts, finished}
 use Rattle.folder.specs.Saves.{NewFileParts, names_of}
 use Rattle.folder.specs.Tied.Steps.{IsOnTheWay}
 use Rattle.folder.proofs.RepairSteps.{all_come, all_removed, all_renamed, are_among_first, beside_first_of, beside_removed, comes_removed, comes_renamed}
@@ -77,24 +77,12 @@ moves_twice h k m first next name = (
   ],
 )
 
--- moves are a repair, and so are a repair behind moves, and what leaves all places as they are behind a repair
-pub repairs : (h k : Held) → IsMoveOf h k → IsRepairOf h k
-repairs h k moves name = (moves name).0
-
-pub repairs_behind : (h k m : Held) → IsMoveOf h k → IsRepairOf k m → IsRepairOf h m
-repairs_behind h k m first next name = elim (next name) [
-  | inl same ↦ elim (first name).0 [ inl a ↦ inl (same ∙ a) | inr other ↦ elim other [ inl a ↦ inr (inl (same ∙ a)) | inr none ↦ inr (inr (same ∙ none)) ] ]
-  | inr other ↦ elim other [
-    | inl put ↦ elim (first name).1 [ inl a ↦ inr (inl (put ∙ a)) | inr none ↦ inr (inr (put ∙ none)) ]
-    | inr none ↦ inr (inr none)
-  ]
-]
-
-pub repairs_same : (h k : Held) → HasSamePlaces h k → IsRepairOf h k
-repairs_same h k same name = inl (ap (λ (f : List ℕ → Option (List ℕ)). f name) same)
-
-pub repairs_before : (h k m : Held) → IsRepairOf h k → HasSamePlaces k m → IsRepairOf h m
-repairs_before h k m first same name = subst (λ (o : Option (List ℕ)). (o ≡ h.placed name) ⊎ ((o ≡ h.beside name) ⊎ (o ≡ None))) (sym (ap (λ (f : List ℕ → Option (List ℕ)). f name) same)) (first name)
+-- what is removed from beside the places is moved
+pub clearing_moves : (names : List (List ℕ)) (h k : Held) → IsCleared names h k → IsMoveOf h k
+clearing_moves names h k cleared name = (
+  inl (ap (λ (f : List ℕ → Option (List ℕ)). f name) cleared.placed),
+  elim (cleared.beside name) [ inl same ↦ inl same | inr gone ↦ inr gone.1 ],
+)
 
 -- ---- a settled folder
 

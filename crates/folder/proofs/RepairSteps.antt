@@ -5,7 +5,7 @@ use Rattle.std.proofs.lemmas.Slice.Eq.{bytes_eq-Decides}
 use Rattle.std.specs.Str.{bytes_eq}
 use Rattle.folder.specs.Held.{Files, Held, in_turn, is_among, removed, renamed, with_file}
 use Rattle.folder.specs.Saves.{AreApart, IsUnderWay, NewFileParts, all_staged, names_of, saved, with_all, without_all}
-use Rattle.folder.specs.Repairs.{AreAmong, AreBeside, HasSamePlaces, IsBetween, IsMoveOf}
+use Rattle.folder.specs.Repairs.{AreAmong, AreBeside, HasSamePlaces, IsBetween}
 use Rattle.folder.proofs.Names.{same_name, with_all-miss, with_other, without_all-at}
 use Rattle.folder.proofs.SaveSteps.{removed-is}
 

@@ -1,11 +1,11 @@
 -- How a repair goes on, and one turn of each of its loops.
 use Rattle.std.proofs.Common.{◌≡◌, ◌≤◌, ◌<◌, ◌+◌, ◌||◌, ℕ, zero, suc, Bool, true, false, List, [], ◌∷◌, Option, Some, None, Result, OnOk, OnErr, IfSome, IsSome, get_or, length, take, drop, refl, sym, ap, ◌∙◌, subst, inl, inr, arith, drop-cons, add-one}
 use Rattle.std.specs.Str.{bytes_eq}
-use Rattle.folder.specs.Calls.{Elapses, Follows, GoTogether, IsDone, IsDoneOrNot, IsSame, IsSettled}
-use Rattle.folder.specs.Held.{Held, IsSameBut, cleared, in_turn, is_among, renamed}
+use Rattle.folder.specs.Calls.{Elapses, Follows, IsDone, IsDoneOrNot, IsSame}
+use Rattle.folder.specs.Held.{Held, IsCleared, cleared, in_turn, is_among, renamed}
 use Rattle.folder.specs.Repairs.{AreBeside}
 use Rattle.folder.specs.Tied.Steps.{IsOnTheWay}
-use Rattle.folder.proofs.Names.{same_but-both, same_but-cleared, same_but-one, same_name}
+use Rattle.folder.proofs.Names.{cleared-both, cleared-either, same_name}
 use Rattle.folder.proofs.Runs.{Ran, carried, goes_on}
 use Rattle.folder.proofs.InTurn.{in_turn-more}
 use Rattle.folder.proofs.Turns.{either_way}
@@ -31,16 +31,16 @@ module _ {F : Type 0} (held : F → Option Held) (may_leave : F → Held → Typ
 
   pub clears_name : {T E : Type 0} (names : List (List ℕ)) (i : ℕ) (item name : List ℕ) (result : Result T E) (old mid new : F)
       → i < length names → item ≡ get_or names i item → name ≡ item
-      → R (IsSameBut names) (IsSameBut names) old mid
-      → OnOk result (Fol (IsDone (cleared name)) mid new) → OnErr result (Fol (IsSameBut (name ∷ [])) mid new) → El (IsSameBut (name ∷ [])) mid new → faults mid ≤ faults new
-      → R (IsSameBut names) (IsSameBut names) old new
+      → R (IsCleared names) (IsCleared names) old mid
+      → OnOk result (Fol (IsDone (cleared name)) mid new) → OnErr result (Fol (IsDoneOrNot (cleared name)) mid new) → El (IsDoneOrNot (cleared name)) mid new → faults mid ≤ faults new
+      → R (IsCleared names) (IsCleared names) old new
   clears_name names i item name result old mid new within is named so_far done fault time rise =
       let among = subst (λ (n : List ℕ). is_among names n ≡ true) (sym named) (among_name names i item within is) in
-      let joins : (h k m : Held) → IsSameBut names h k → IsSameBut (name ∷ []) k m → IsSameBut names h m = λ h k m a b. same_but-both names h k m a (same_but-one names name k m among b) in
+      let joins : (h k m : Held) → IsCleared names h k → IsDoneOrNot (cleared name) k m → IsCleared names h m = λ h k m a b. cleared-both names h k m a (cleared-either names name k m among b) in
       either_way result _ _ _ done fault
-      (λ d. goes_on held may_leave moment left_since faults (IsSameBut names) (IsDone (cleared name)) (IsSameBut names) (IsSameBut names) (IsSameBut (name ∷ [])) old mid new so_far d time rise
-      (λ h k m a b. joins h k m a (subst (λ (x : Held). IsSameBut (name ∷ []) k x) (sym b) (same_but-cleared name k))) joins)
-      (λ e. goes_on held may_leave moment left_since faults (IsSameBut names) (IsSameBut (name ∷ [])) (IsSameBut names) (IsSameBut names) (IsSameBut (name ∷ [])) old mid new so_far e time rise joins joins)
+      (λ d. goes_on held may_leave moment left_since faults (IsCleared names) (IsDone (cleared name)) (IsCleared names) (IsCleared names) (IsDoneOrNot (cleared name)) old mid new so_far d time rise
+      (λ h k m a b. joins h k m a (inr b)) joins)
+      (λ e. goes_on held may_leave moment left_since faults (IsCleared names) (IsDoneOrNot (cleared name)) (IsCleared names) (IsCleared names) (IsDoneOrNot (cleared name)) old mid new so_far e time rise joins joins)
 
   module _ {X : Type 0} (step : X → Held → Held) (xs : List X) (i : ℕ) (x : X) (within : i < length xs) (is : x ≡ get_or xs i x) where
     abbrev SoMany : ℕ → Held → Held → Type 0

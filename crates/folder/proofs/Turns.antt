@@ -4,7 +4,7 @@ use Rattle.folder.specs.Calls.{Elapses, Follows, HasCause, IsDone, IsDoneOrNot, 
 use Rattle.folder.specs.Held.{Held, IsSameBut, cleared, in_turn, is_among, renamed, staged}
 use Rattle.folder.specs.Saves.{NewFileParts, names_of}
 use Rattle.folder.specs.Tied.Steps.{AreStaged, IsOnTheWayOrBeside, stage_file}
-use Rattle.folder.proofs.Names.{among_at, same_but-both, same_but-cleared, same_but-one}
+use Rattle.folder.proofs.Names.{among_at, same_but-both, same_but-either, same_but-one}
 use Rattle.folder.proofs.Runs.{Ran, carried, goes_on, known, runs_on}
 use Rattle.folder.proofs.InTurn.{in_turn-more}
 use Rattle.folder.proofs.SaveSteps.{staged-beside}
@@ -27,16 +27,16 @@ module _ {F : Type 0} (held : F → Option Held) (may_leave : F → Held → Typ
   pub clears_on : {T E : Type 0} (files : List NewFileParts) (i : ℕ) (f : NewFileParts) (name : List ℕ) (result : Result T E) (old mid new : F)
       → i < length files → f ≡ get_or files i f → name ≡ f.name
       → R (IsSameBut (names_of files)) (IsSameBut (names_of files)) old mid
-      → OnOk result (Fol (IsDone (cleared name)) mid new) → OnErr result (Fol (IsSameBut (name ∷ [])) mid new) → El (IsSameBut (name ∷ [])) mid new → faults mid ≤ faults new
+      → OnOk result (Fol (IsDone (cleared name)) mid new) → OnErr result (Fol (IsDoneOrNot (cleared name)) mid new) → El (IsDoneOrNot (cleared name)) mid new → faults mid ≤ faults new
       → R (IsSameBut (names_of files)) (IsSameBut (names_of files)) old new
   clears_on files i f name result old mid new within is named so_far done fault time rise =
       let names = names_of files in
       let among = subst (λ (n : List ℕ). is_among names n ≡ true) (sym named) (among_at files i f within is) in
-      let joins : (h k m : Held) → IsSameBut names h k → IsSameBut (name ∷ []) k m → IsSameBut names h m = λ h k m a b. same_but-both names h k m a (same_but-one names name k m among b) in
+      let joins : (h k m : Held) → IsSameBut names h k → IsDoneOrNot (cleared name) k m → IsSameBut names h m = λ h k m a b. same_but-both names h k m a (same_but-one names name k m among (same_but-either name k m b)) in
       either_way result _ _ _ done fault
-      (λ d. goes_on held may_leave moment left_since faults (IsSameBut names) (IsDone (cleared name)) (IsSameBut names) (IsSameBut names) (IsSameBut (name ∷ [])) old mid new so_far d time rise
-      (λ h k m a b. joins h k m a (subst (λ (x : Held). IsSameBut (name ∷ []) k x) (sym b) (same_but-cleared name k))) joins)
-      (λ e. goes_on held may_leave moment left_since faults (IsSameBut names) (IsSameBut (name ∷ [])) (IsSameBut names) (IsSameBut names) (IsSameBut (name ∷ [])) old mid new so_far e time rise joins joins)
+      (λ d. goes_on held may_leave moment left_since faults (IsSameBut names) (IsDone (cleared name)) (IsSameBut names) (IsSameBut names) (IsDoneOrNot (cleared name)) old mid new so_far d time rise
+      (λ h k m a b. joins h k m a (inr b)) joins)
+      (λ e. goes_on held may_leave moment left_since faults (IsSameBut names) (IsDoneOrNot (cleared name)) (IsSameBut names) (IsSameBut names) (IsDoneOrNot (cleared name)) old mid new so_far e time rise joins joins)
 
   -- one file more is staged
   pub stages_on : (files : List NewFileParts) (i : ℕ) (f : NewFileParts) (name bytes : List ℕ) (old mid new : F)

@@ -1,5 +1,5 @@
 -- What a folder holds. All of it is reqlock's own rule.
-use Rattle.std.specs.Prelude.{◌≡◌, ℕ, Bool, false, List, [], ◌∷◌, Option, Some, None, bytes_eq, if◌then◌else◌}
+use Rattle.std.specs.Prelude.{◌≡◌, ◌⊎◌, ℕ, Bool, true, false, List, [], ◌∷◌, Option, Some, None, bytes_eq, if◌then◌else◌}
 use Rattle.std.specs.List.{list_any}
 
 -- the bytes of files by their names, of each that there is
@@ -39,6 +39,11 @@ is_among names name = list_any (λ other. bytes_eq other name) names
 pub record IsSameBut (names : List (List ℕ)) (old new : Held) : Type 0 where
   pub placed : new.placed ≡ old.placed
   pub beside : (name : List ℕ) → is_among names name ≡ false → new.beside name ≡ old.beside name
+
+-- nothing is changed but that some of what stood beside the places of these names is gone
+pub record IsCleared (names : List (List ℕ)) (old new : Held) : Type 0 where
+  pub placed : new.placed ≡ old.placed
+  pub beside : (name : List ℕ) → (new.beside name ≡ old.beside name) ⊎ ((is_among names name ≡ true) × (new.beside name ≡ None))
 
 -- a step for each item in turn
 abbrev pub in_turn : {X : Type 0} → (X → Held → Held) → List X → Held → Held

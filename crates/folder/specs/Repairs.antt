@@ -33,10 +33,6 @@ IsMoveOf old new =
     → ((new.placed name ≡ old.placed name) ⊎ ((new.placed name ≡ old.beside name) ⊎ (new.placed name ≡ None)))
     × ((new.beside name ≡ old.beside name) ⊎ (new.beside name ≡ None))
 
--- each place holds what it held, or what stood beside it, or nothing
-abbrev pub IsRepairOf : Held → Held → Type 0
-IsRepairOf old new = (name : List ℕ) → (new.placed name ≡ old.placed name) ⊎ ((new.placed name ≡ old.beside name) ⊎ (new.placed name ≡ None))
-
 -- each file stands as when all was written beside, or as after the save
 abbrev pub IsBetween : List NewFileParts → List (List ℕ) → Held → Held → Type 0
 IsBetween files going old new =

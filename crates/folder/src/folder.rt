@@ -68,13 +68,13 @@ pub trait Folder {
             self.old self.new }
         ensures cause { HasCause held faults self.old self.new result Unwritten };
 
-    /// Removes what stands beside a file's place. A fault or a stop may leave anything there, and changes nothing else.
+    /// Removes what stands beside a file's place, at once. Where it can't, it stands there or is gone.
     fn remove_beside(&mut self, name: &str) -> Result<(), WriteFault>
         ensures done { OnOk result
             (Follows held may_leave (IsDone (cleared name.now)) self.old self.new) }
         ensures fault { OnErr result
-            (Follows held may_leave (IsSameBut (name.now ∷ [])) self.old self.new) }
-        ensures time { Elapses moment left_since may_leave (IsSameBut (name.now ∷ []))
+            (Follows held may_leave (IsDoneOrNot (cleared name.now)) self.old self.new) }
+        ensures time { Elapses moment left_since may_leave (IsDoneOrNot (cleared name.now))
             self.old self.new }
         ensures cause { HasCause held faults self.old self.new result Unwritten };
 

@@ -1,8 +1,8 @@
 // The repair of a folder in which a save was stopped.
 
-ghost use Rattle.std.specs.Prelude.{◌≤◌, IfSome, OnErr, OnOk};
+ghost use Rattle.std.specs.Prelude.{IfSome, OnErr, OnOk};
 ghost use Rattle.folder.specs.Calls.{Follows, HasCause, IsDone, LeavesOnly, Ran};
-ghost use Rattle.folder.specs.Held.{IsSameBut, in_turn, removed, renamed};
+ghost use Rattle.folder.specs.Held.{IsCleared, in_turn, removed, renamed};
 ghost use Rattle.folder.specs.Repairs.{AreBeside, IsEnding, LeftParts, finished};
 ghost use Rattle.folder.specs.Tied.Steps.{IsOnTheWay};
 ghost use Rattle.folder.specs.declared.folder.WriteFault.TheVariants.{Unwritten};
@@ -43,10 +43,8 @@ pub fn end_save<F: Folder>(folder: &mut F, left: &Left) -> Result<(), WriteFault
 
 /// Removes what stands beside the places of names, of each where it can.
 pub fn clear_names<F: Folder>(folder: &mut F, names: &[Text])
-    ensures beside { Follows F.held F.may_leave (IsSameBut names.now) folder.old folder.new }
-    ensures any_moment { LeavesOnly F.moment F.left_since F.may_leave (IsSameBut names.now)
-        folder.old folder.new }
-    ensures faults { F.faults folder.old ≤ F.faults folder.new }
+    ensures { Ran F.held F.may_leave F.moment F.left_since F.faults
+        (IsCleared names.now) (IsCleared names.now) folder.old folder.new }
 {
     for index in 0..names.len() {
         let name = &names[index];

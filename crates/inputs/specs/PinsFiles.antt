@@ -15,6 +15,7 @@ use Rattle.inputs.specs.declared.input_files.InputFault.TheVariants as inputs
 use Rattle.inputs.specs.declared.pins_files.PinsFile.{PinsFile}
 use Rattle.inputs.specs.declared.pins_files.LentTarget.{LentTarget}
 use Rattle.inputs.specs.declared.unread.Unread.TheVariants.{ManyDots}
+use Rattle.inputs.specs.TargetFiles.{names_of, target_file_of}
 
 -- what was read, or its fault as that of an input
 abbrev pub as_pins : Result PinFile PinFault → Result PinFile InputFault
@@ -63,6 +64,10 @@ without_lock target = (target.name, target.environment)
 abbrev pub pins_for : List PinsFile → List LentTarget → List TargetPins
 pins_for files targets = pins_for_each files (map given_by targets)
 
--- some files pin this for each of these named environments
-abbrev pub ArePinsFor : List (List ℕ × Texts) → List TargetPins → Type 0
-ArePinsFor given pins = (files : List PinsFile) × (pins ≡ pins_for_each files given)
+-- files that were read for these targets pin this for each of these named environments
+abbrev pub ArePinsFor : List (List ℕ) → List (List ℕ × Texts) → List TargetPins → Type 0
+ArePinsFor targets given pins = (files : List PinsFile) × (map (λ f. f.target) files ≡ targets) × (pins ≡ pins_for_each files given)
+
+-- the targets that values of `--pins` name, each before the first `=`
+abbrev pub pinned_targets : List (List ℕ) → List (List ℕ)
+pinned_targets values = names_of (map target_file_of values)

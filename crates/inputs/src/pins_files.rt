@@ -4,6 +4,7 @@ ghost use Rattle.lists.specs.Answers.{Answers};
 ghost use Rattle.std.specs.Prelude.{◌≡◌, ◌++◌, IfOk, OnOk, map};
 ghost use Rattle.inputs.specs.Pins.{pins_in};
 ghost use Rattle.inputs.specs.PinsFiles as spec;
+ghost use Rattle.inputs.specs.TargetFiles.{names_of, names_read, target_file_of};
 ghost use Rattle.inputs.specs.declared.input_files.InputFault.TheVariants.{OutOfMemory};
 
 use crate::fault::{Fault, in_file};
@@ -40,7 +41,9 @@ pub struct LentTarget<'a> {
 }
 
 /// The files that values of `--pins` name, in their order. No file has been read.
-pub fn pins_paths(alloc: Global, values: &[Text]) -> Result<Vec<NamedPath<Text>>, AllocError> {
+pub fn pins_paths(alloc: Global, values: &[Text]) -> Result<Vec<NamedPath<Text>>, AllocError>
+    ensures { IfOk result (λ paths. paths.items ≡ map target_file_of values.now) }
+{
     let mut paths = Vec::with_capacity(alloc, values.len())?;
     for value in values {
         paths.push(pins_path(alloc, value.as_str())?)?;
@@ -49,7 +52,9 @@ pub fn pins_paths(alloc: Global, values: &[Text]) -> Result<Vec<NamedPath<Text>>
 }
 
 /// The target and the path of a value.
-fn pins_path(alloc: Global, value: &str) -> Result<NamedPath<Text>, AllocError> {
+fn pins_path(alloc: Global, value: &str) -> Result<NamedPath<Text>, AllocError>
+    ensures { IfOk result (λ path. path ≡ target_file_of value.now) }
+{
     let (name, path) = parts_of(value);
     let name = Text::copy_of(alloc, name)?;
     let path = Text::copy_of(alloc, path)?;
@@ -60,7 +65,9 @@ fn pins_path(alloc: Global, value: &str) -> Result<NamedPath<Text>, AllocError> 
 pub fn read_pins<R: Files + AllocGlobal, I: Read + Drop>(
     handed_in: &mut HandedIn<'_, R, I>,
     paths: Vec<NamedPath<Text>>,
-) -> Result<Vec<NamedBytes<Text>>, Fault> {
+) -> Result<Vec<NamedBytes<Text>>, Fault>
+    ensures { IfOk result (λ read. names_read read.items ≡ names_of paths.items) }
+{
     let mut read = Vec::with_capacity(handed_in.alloc(), paths.len())?;
     for NamedPath { name, path } in paths {
         let bytes = handed_in.read(InputFile::Pins(name.clone()?), path.as_str())?;
@@ -112,7 +119,9 @@ fn as_input(read: Result<PinFile, PinFault>) -> Result<PinFile, InputFault>
 }
 
 /// The files that the bytes are; faults are told in their order.
-fn pins_files(alloc: Global, read: Vec<NamedBytes<Text>>) -> Result<Vec<PinsFile>, Fault> {
+fn pins_files(alloc: Global, read: Vec<NamedBytes<Text>>) -> Result<Vec<PinsFile>, Fault>
+    ensures { IfOk result (λ files. map (λ f. f.target) files.items ≡ names_read read.items) }
+{
     let mut files = Vec::with_capacity(alloc, read.len())?;
     for NamedBytes { name, path, bytes } in read {
         let is_lock = path.as_str().ends_with(".toml");
@@ -130,7 +139,8 @@ pub fn pins_of(
     read: Vec<NamedBytes<Text>>,
     targets: &[LentTarget<'_>],
 ) -> Result<Seq<TargetPins>, Fault>
-    ensures { IfOk result (λ pins. spec.ArePinsFor (map spec.given_by targets.now) pins) }
+    ensures { IfOk result (λ pins.
+        spec.ArePinsFor (names_read read.items) (map spec.given_by targets.now) pins) }
 {
     let files = pins_files(alloc, read)?;
     for file in files.as_slice() {

@@ -3,8 +3,8 @@ use Rattle.std.proofs.Common.{◌≡◌, ◌⊎◌, ◌≤◌, ◌<◌, ◌+◌,
 use Rattle.folder.specs.Calls.{After, Elapses, Follows}
 use Rattle.std.proofs.lemmas.Bool.{cases_lt}
 use Rattle.std.specs.Str.{bytes_eq}
-use Rattle.folder.specs.Held.{Files, Held, IsSameBut, cleared, in_turn, staged, with_file}
-use Rattle.folder.proofs.Names.{same_but-cleared, same_but-staged}
+use Rattle.folder.specs.Held.{Files, Held, IsSameBut, in_turn, staged, with_file}
+use Rattle.folder.proofs.Names.{same_but-staged}
 use Rattle.memory_folder.specs.Changes.{HadBeen, change_done, empty, held_after}
 use Rattle.memory_folder.specs.declared.changes.Change.{Change}
 use Rattle.memory_folder.specs.declared.memory.MemoryFolder.{MemoryFolder}
@@ -101,6 +101,3 @@ staged_once name a front h is = subst (λ (n : List ℕ). IsSameBut (name ∷ []
 
 pub staged_all : (name bytes : List ℕ) (h k : Held) → k ≡ staged name bytes h → IsSameBut (name ∷ []) h k
 staged_all name bytes h k is = subst (λ (x : Held). IsSameBut (name ∷ []) h x) (sym is) (same_but-staged name bytes h)
-
-pub cleared_once : (name a : List ℕ) (h : Held) → a ≡ name → IsSameBut (name ∷ []) h (cleared a h)
-cleared_once name a h is = subst (λ (n : List ℕ). IsSameBut (name ∷ []) h (cleared n h)) (sym is) (same_but-cleared name h)

@@ -1,11 +1,8 @@
-pub mod Answers
-pub mod KeptLocks
 pub mod SameHistory
 pub mod Places
 pub mod Writes
 pub mod JournalWrites
 pub mod SavedLocks
 pub mod NothingWritten
-pub mod OpenedFiles
 pub mod StoppedSaves
 pub mod Repeats

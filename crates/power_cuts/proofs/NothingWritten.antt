@@ -23,8 +23,9 @@ use Rattle.journal_format.specs.declared.header.HeaderTarget.{HeaderTarget}
 use Rattle.files.specs.Beside.{one_where}
 use Rattle.files.specs.Rewrites.{going_of, gone_among, has_lock, is_known, is_left, lock_rewrites, rewrites_of, rewriting}
 use Rattle.files.specs.declared.saved_files.SavedFiles.{SavedFiles}
-use Rattle.power_cuts.proofs.KeptLocks.{HasItsLock, all-kept, none-stray}
-use Rattle.power_cuts.proofs.SameHistory.{AreSameFiles, AreSameLocks}
+use Rattle.files.proofs.KeptLocks.{HasItsLock, all-kept, none-stray}
+use Rattle.files.proofs.OtherLocks.{AreSameLocks}
+use Rattle.power_cuts.proofs.SameHistory.{AreSameFiles}
 use Rattle.power_cuts.proofs.SavedLocks.{lock-found, lock_names}
 
 -- ---- locks of the header's targets

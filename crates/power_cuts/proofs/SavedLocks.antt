@@ -24,7 +24,7 @@ use Rattle.journal_format.specs.Lines.{are_targets}
 use Rattle.journal_format.specs.declared.header.Header.{Header}
 use Rattle.journal_format.specs.declared.header.HeaderTarget.{HeaderTarget}
 use Rattle.journal_format.proofs.HeaderFacts.{header-read}
-use Rattle.power_cuts.proofs.Answers.{agreed, checked, found, went-on}
+use Rattle.files.proofs.Answers.{agreed, checked, found, went-on}
 
 -- the names of targets, and of lock files
 abbrev names : List Target → List (List ℕ)

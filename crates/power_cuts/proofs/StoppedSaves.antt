@@ -6,7 +6,6 @@ use Rattle.std.proofs.lemmas.Slice.Eq.{bytes_eq-Decides}
 use Rattle.std.specs.Str.{bytes_eq}
 use Rattle.lists.proofs.Members.{Contains-here, Contains-there}
 use Rattle.folder.specs.Held.{Held, is_among}
-use Rattle.folder.specs.Repairs.{IsRepairOf}
 use Rattle.folder.specs.Saves.{NewFileParts, changed, names_of, with_all, without_all}
 use Rattle.inputs.specs.FileNames.{name_of}
 use Rattle.inputs.specs.declared.input_files.InputFile.{InputFile}
@@ -20,15 +19,17 @@ use Rattle.journal_format.specs.declared.header.Header.{Header}
 use Rattle.journal.proofs.StepsJoined.{all-take}
 use Rattle.files.specs.NamedRewrites.{new_file}
 use Rattle.files.specs.Places.{FileBytes, StandsFor, bytes_read, bytes_saved}
+use Rattle.files.specs.Repair.{IsRepairOf}
 use Rattle.files.specs.RewriteParts.{RewriteParts}
 use Rattle.files.specs.Rewrites.{going_of, rewrites_of}
 use Rattle.files.specs.declared.saved_files.SavedFiles.{SavedFiles}
+use Rattle.files.proofs.OtherLocks.{has-header}
 use Rattle.power_cuts.specs.OneHistory.{AreToldApart, texts_of}
-use Rattle.power_cuts.specs.Stopped.{IsRepaired, IsStopped, digested}
+use Rattle.power_cuts.specs.Stopped.{IsStopped, digested}
 use Rattle.power_cuts.proofs.JournalWrites.{journal-among, journal-only}
 use Rattle.power_cuts.proofs.NothingWritten.{nothing-goes, nothing-written}
 use Rattle.power_cuts.proofs.Places.{stands-once, still-stands}
-use Rattle.power_cuts.proofs.SameHistory.{AreWithin, digests-tell, has-header, history-within, same-files}
+use Rattle.power_cuts.proofs.SameHistory.{AreWithin, digests-tell, history-within, same-files}
 use Rattle.power_cuts.proofs.SavedLocks.{saved-rise}
 use Rattle.power_cuts.proofs.Writes.{WritesOnly, removed-or_not, take-none, written-among, written-or_not}
 
@@ -67,8 +68,8 @@ module _ (writes : List NewFileParts) (going : List (List ℕ)) (n : ℕ) (old :
         | inr kept ↦ inr (inr (kept ∙ written-among name other writes old.beside only among))
       ]
 
-one-repaired : (left now : Held) (name one other : List ℕ) → IsRepairOf left now → IsOneOf (left.placed name) one other → IsOneOf (left.beside name) one other → IsOneOf (now.placed name) one other
-one-repaired left now name one other repaired placed beside = elim (repaired name) [
+one-repaired : (left now : Held) (name one other : List ℕ) → IsRepairOf ⊥ left now → IsOneOf (left.placed name) one other → IsOneOf (left.beside name) one other → IsOneOf (now.placed name) one other
+one-repaired left now name one other repaired placed beside = elim (repaired.moves name).0 [
   | inl same ↦ subst (λ (o : Option (List ℕ)). IsOneOf o one other) (sym same) placed
   | inr more ↦ elim more [
     | inl taken ↦ subst (λ (o : Option (List ℕ)). IsOneOf o one other) (sym taken) beside
@@ -96,7 +97,7 @@ within-all all files within = record {
 
 -- ---- what the files stand for
 
-module _ (law : FilesStandForOneHistory) (history next after : HistoryParts) (left now : Held) (stopped : IsStopped history next left) (stands : StandsFor now after) (repaired : IsRepaired left now)
+module _ (law : FilesStandForOneHistory) (history next after : HistoryParts) (left now : Held) (stopped : IsStopped history next left) (stands : StandsFor now after) (repaired : IsRepairOf ⊥ left now)
     (apart : AreToldApart (digested stopped.stood.files ++ digested (bytes_saved stopped.save.form) ++ digested stands.files)) where
   abbrev before : FileBytes
   before = stopped.stood.files
@@ -131,7 +132,7 @@ module _ (law : FilesStandForOneHistory) (history next after : HistoryParts) (le
   as-before : left.placed ≡ stopped.old.placed → after ≡ history
   as-before same =
       let stood : StandsFor left history = still-stands stopped.old left history same stopped.stood in
-      stands-once law now after history stands (still-stands left now history (repaired.stays history stood) stood)
+      stands-once law now after history stands (still-stands left now history (repaired.stays (λ never. never) history stood) stood)
 
   -- where the journal that was read stays as it was, so do all files
   same-journal : bytes_eq files.journal saved.journal ≡ true → bytes_read files ≡ before → (n : ℕ) → left ≡ changed writes going n stopped.old → after ≡ history
@@ -166,7 +167,7 @@ module _ (law : FilesStandForOneHistory) (history next after : HistoryParts) (le
       subst (λ (h : Held). IsOneOf (h.placed name) before.journal saved.journal) (sym is) (one-placed writes going n stopped.old name before.journal saved.journal (journal-only files saved) stopped.stood.places.journal) in
       let beside : IsOneOf (left.beside name) before.journal saved.journal =
       subst (λ (h : Held). IsOneOf (h.beside name) before.journal saved.journal) (sym is) (one-beside writes going n stopped.old name before.journal saved.journal (journal-only files saved) (journal-among files saved other)) in
-      elim (which-one (now.placed name) before.journal saved.journal stands.files.journal (one-repaired left now name before.journal saved.journal repaired.places placed beside) stands.places.journal) [
+      elim (which-one (now.placed name) before.journal saved.journal stands.files.journal (one-repaired left now name before.journal saved.journal repaired placed beside) stands.places.journal) [
         | inl same ↦
             let opens : Opens stands.files.requirements stands.files.locks before.journal (Ok after) = subst (λ (j : List ℕ). Opens stands.files.requirements stands.files.locks j (Ok after)) same stands.opens in
             inl (history-within law all stands.files.requirements before.requirements stands.files.locks before.locks before.journal after history apart now-within old-within opens stopped.stood.opens)

@@ -1,10 +1,11 @@
 -- Which histories files can stand for that share a journal. All of it is reqlock's own rule.
-use Rattle.std.specs.Prelude.{◌≡◌, ℕ, List, ◌∷◌, ◌++◌, map, Some, Ok}
+use Rattle.std.specs.Prelude.{◌≡◌, ℕ, List, ◌∷◌, ◌++◌, map, Ok}
 use Rattle.std.specs.List.{Contains}
 use Rattle.sha2.specs.Sha256.{sha256}
 use Rattle.journal.specs.Changes.{HistoryParts}
-use Rattle.journal.specs.Locks.{LockTexts, lock_at}
+use Rattle.journal.specs.Locks.{LockTexts}
 use Rattle.journal.specs.Opens.{Opens}
+use Rattle.files.specs.JournalLocks.{AreOneByName}
 
 -- no two of these files that differ have the same digest
 abbrev pub AreToldApart : List (List ℕ) → Type 0
@@ -13,10 +14,6 @@ AreToldApart files = (a b : List ℕ) → Contains files a → Contains files b 
 -- the bytes of lock files
 abbrev pub texts_of : LockTexts → List (List ℕ)
 texts_of locks = map (λ lock. lock.1) locks
-
--- the lock files of one name have the same bytes
-abbrev pub AreOneByName : LockTexts → LockTexts → Type 0
-AreOneByName locks more = (name one other : List ℕ) → lock_at locks name ≡ Some one → lock_at more name ≡ Some other → one ≡ other
 
 -- files that open beside one journal stand for one history, if no two of them that differ have the same digest
 abbrev pub AJournalTellsOneHistory : Type 0

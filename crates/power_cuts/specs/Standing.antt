@@ -1,8 +1,9 @@
 -- What the files in the places of a folder stand for, and what opens of them. All of it is reqlock's own rule.
-use Rattle.std.specs.Prelude.{◌≡◌, map, Ok}
+use Rattle.std.specs.Prelude.{◌≡◌, Ok}
 use Rattle.folder.specs.Held.{Held}
 use Rattle.journal.specs.Changes.{HistoryParts}
-use Rattle.journal.specs.Opens.{NamesTargets, Opens}
+use Rattle.journal.specs.Opens.{Opens}
+use Rattle.files.specs.JournalLocks.{AreOfJournal}
 use Rattle.files.specs.Places.{AreInPlace, FileBytes, StandsFor}
 
 -- the files of a folder stand for one history at most
@@ -12,5 +13,5 @@ PlacesStandForOneHistory = (held : Held) (one another : HistoryParts) → Stands
 -- files that stand for a history open as it, where the locks are read that the journal names
 abbrev pub WhatStandsIsOpened : Type 0
 WhatStandsIsOpened =
-    (held : Held) (history : HistoryParts) (files : FileBytes) → StandsFor held history → AreInPlace held files → NamesTargets files.journal (Ok (map (λ lock. lock.0) files.locks))
+    (held : Held) (history : HistoryParts) (files : FileBytes) → StandsFor held history → AreInPlace held files → AreOfJournal files.journal files.locks
     → Opens files.requirements files.locks files.journal (Ok history)

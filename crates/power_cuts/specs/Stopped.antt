@@ -1,9 +1,9 @@
 -- What a stopped save of a history leads to, behind the repair of the next call. All of it is reqlock's own rule.
 use Rattle.std.specs.Prelude.{◌≡◌, ◌⊎◌, ℕ, List, [], ◌∷◌, ◌++◌}
 use Rattle.folder.specs.Held.{Held}
-use Rattle.folder.specs.Repairs.{HasSamePlaces, IsRepairOf}
 use Rattle.journal.specs.Changes.{HistoryParts}
 use Rattle.files.specs.Places.{FileBytes, StandsFor, bytes_read, bytes_saved}
+use Rattle.files.specs.Repair.{IsRepairOf}
 use Rattle.files.specs.Saving.{IsSaving}
 use Rattle.files.specs.declared.saved_files.SavedFiles.{SavedFiles}
 use Rattle.power_cuts.specs.OneHistory.{AreToldApart, texts_of}
@@ -17,11 +17,6 @@ pub record IsStopped (history next : HistoryParts) (left : Held) : Type 0 where
   pub read : (bytes_read files ≡ stood.files) ⊎ (files.journal ≡ [])
   pub save : IsSaving files next old left
 
--- a repair: each place holds what it held, or what stood beside it, or nothing; and where the files in their places stand for a history, they stay in them
-pub record IsRepaired (left now : Held) : Type 0 where
-  pub places : IsRepairOf left now
-  pub stays : (history : HistoryParts) → StandsFor left history → HasSamePlaces left now
-
 -- the files whose digests a journal has
 abbrev pub digested : FileBytes → List (List ℕ)
 digested files = files.requirements ∷ texts_of files.locks
@@ -30,6 +25,6 @@ digested files = files.requirements ∷ texts_of files.locks
 abbrev pub AStopLeavesTheOldOrTheNew : Type 0
 AStopLeavesTheOldOrTheNew =
     (history next after : HistoryParts) (left now : Held) (stopped : IsStopped history next left) (stands : StandsFor now after)
-    → IsRepaired left now
+    → IsRepairOf ⊥ left now
     → AreToldApart (digested stopped.stood.files ++ digested (bytes_saved stopped.save.form) ++ digested stands.files)
     → (after ≡ history) ⊎ (after ≡ next)

@@ -1,5 +1,13 @@
 // What `batch` and `try` do.
 
+ghost use Rattle.std.specs.Bool.{⊤};
+ghost use Rattle.std.specs.Prelude.{◌⊎◌, IfErr, IfOk, OnOk};
+ghost use Rattle.commands.specs.Runs.{SomeDoneTo};
+ghost use Rattle.files.specs.Repair.{IsRepairOf};
+ghost use Rattle.files.specs.Places.{AreInPlace};
+ghost use Rattle.folder.specs.Calls.{IsSettled, Ran};
+ghost use Rattle.saves.specs.Called.{AtAnyMoment, BatchIsDone, Called, IsFaultOfSaving, is_save};
+
 use crate::init::begin;
 use crate::standing_lock::refuse_standing;
 use calls::{Call, pool_of};
@@ -30,7 +38,23 @@ pub fn run_batch<R: Files + AllocGlobal, F: HistoryFolder, I: Read + Drop, O: Wr
     options: EditOptions<'_>,
     is_all_or_none: bool,
     input: I,
-) -> Result<(), Stop> {
+) -> Result<(), Stop>
+    // as after a restart
+    requires { IsSettled F.held F.may_leave folder.old }
+    ensures called { OnOk result (Called F.held F.may_leave F.moment F.left_since F.faults
+        (IsRepairOf (F.may_fail folder.old)) AreInPlace is_save
+        (BatchIsDone is_all_or_none options.entry.keeps_locked)
+        (λ end. ⊤)
+        folder.old folder.new) }
+    ensures any_moment { AtAnyMoment F.held F.may_leave F.moment F.left_since F.faults
+        (IsRepairOf (F.may_fail folder.old)) AreInPlace is_save
+        (BatchIsDone is_all_or_none options.entry.keeps_locked)
+        folder.old folder.new }
+    ensures nothing_saved { IfErr result (λ stop. IsFaultOfSaving stop
+        ⊎ Ran F.held F.may_leave F.moment F.left_since F.faults
+        (IsRepairOf (F.may_fail folder.old)) (IsRepairOf (F.may_fail folder.old))
+        folder.old folder.new) }
+{
     let rt = call.rt;
     let SavedHistory {
         files,
@@ -102,7 +126,10 @@ fn done_to_the_end<I: Read + Drop, O: Write>(
     session: &mut Session,
     pool: &Pool<'_>,
     is_all_or_none: bool,
-) -> Result<BatchEnd, Stop> {
+) -> Result<BatchEnd, Stop>
+    ensures { IfOk result
+        (λ end. SomeDoneTo is_all_or_none end pool.now session.old session.new) }
+{
     let mut source = Counted::new(input);
     let mut sink = Counted::new(output);
     Ok(batch_to_its_end(alloc, &mut source, &mut sink, session, pool, is_all_or_none)?)

@@ -1,9 +1,18 @@
 // What an edit, `undo` and `redo` do.
 
-ghost use Rattle.std.specs.Prelude.{IfErr, IfOk};
+ghost use Rattle.std.specs.Io.KnownBytes.{Appends};
+ghost use Rattle.std.specs.Prelude.{◌⊎◌, IfErr, IfOk, OnOk};
+ghost use Rattle.calls.specs.AskedEdits.{MayGiveWay};
+ghost use Rattle.files.specs.Places.{AllAre, AreInPlace, bytes_read};
+ghost use Rattle.files.specs.Repair.{IsRepairOf};
+ghost use Rattle.commands.specs.Replies.{is_accepted, text_of_reply};
+ghost use Rattle.folder.specs.Calls.{IsSettled, Ran, Stays};
 ghost use Rattle.journal.specs.Commands.{asked_of};
 ghost use Rattle.saves.specs.Applied.{GoesOn, StopsAt};
+ghost use Rattle.saves.specs.Called.{AtAnyMoment, Called, EditIsDone, IsFaultOfSaving, StepIsDone};
+ghost use Rattle.saves.specs.Tied.Applying.{IsApplied, IsApplying};
 
+use crate::saved_reply::save_and_print;
 use crate::standing_lock::refuse_standing;
 use calls::{Call, ReadEdit, asked_edit_to_save, difference_between, pool_of};
 use command_line::request::{AskedEdit, EditOptions};
@@ -14,7 +23,6 @@ use files::standing_lock::target_names;
 use files::{HistoryFolder, SavedFiles};
 use inputs::target_files::TargetPath;
 use journal::{Command, Reply, Session};
-use reports::print;
 use std::alloc::Global;
 use std::io::{Read, Write};
 use std::rt::Files;
@@ -30,7 +38,26 @@ pub fn edit_once<R: Files + AllocGlobal, F: HistoryFolder, I: Read + Drop, O: Wr
     options: EditOptions<'_>,
     targets: Vec<TargetPath>,
     input: I,
-) -> Result<(), Stop> {
+) -> Result<(), Stop>
+    // as after a restart
+    requires { IsSettled F.held F.may_leave folder.old }
+    ensures called { OnOk result (Called F.held F.may_leave F.moment F.left_since F.faults
+        (IsRepairOf (MayGiveWay asked.entry (F.may_fail folder.old))) AreInPlace is_accepted
+        (EditIsDone asked.entry targets.items options.entry.keeps_locked
+        options.entry.only_if_needed)
+        (λ reply. Appends (O.contents call.old.output) (O.contents call.new.output)
+        (text_of_reply reply))
+        folder.old folder.new) }
+    ensures any_moment { AtAnyMoment F.held F.may_leave F.moment F.left_since F.faults
+        (IsRepairOf (MayGiveWay asked.entry (F.may_fail folder.old))) AreInPlace is_accepted
+        (EditIsDone asked.entry targets.items options.entry.keeps_locked
+        options.entry.only_if_needed)
+        folder.old folder.new }
+    ensures nothing_saved { IfErr result (λ stop. IsFaultOfSaving stop
+        ⊎ Ran F.held F.may_leave F.moment F.left_since F.faults
+        (IsRepairOf (MayGiveWay asked.entry (F.may_fail folder.old)))
+        (IsRepairOf (MayGiveWay asked.entry (F.may_fail folder.old))) folder.old folder.new) }
+{
     let ReadEdit { history, edit } = asked_edit_to_save(
         call.rt,
         &mut *folder,
@@ -62,7 +89,24 @@ pub fn step_once<R: AllocGlobal, F: HistoryFolder, O: Write>(
     folder: &mut F,
     details: &mut Details,
     command: &Command<'_>,
-) -> Result<(), Stop> {
+) -> Result<(), Stop>
+    // as after a restart
+    requires { IsSettled F.held F.may_leave folder.old }
+    ensures called { OnOk result (Called F.held F.may_leave F.moment F.left_since F.faults
+        (IsRepairOf (F.may_fail folder.old)) AreInPlace is_accepted
+        (StepIsDone (asked_of command.now))
+        (λ reply. Appends (O.contents call.old.output) (O.contents call.new.output)
+        (text_of_reply reply))
+        folder.old folder.new) }
+    ensures any_moment { AtAnyMoment F.held F.may_leave F.moment F.left_since F.faults
+        (IsRepairOf (F.may_fail folder.old)) AreInPlace is_accepted
+        (StepIsDone (asked_of command.now))
+        folder.old folder.new }
+    ensures nothing_saved { IfErr result (λ stop. IsFaultOfSaving stop
+        ⊎ Ran F.held F.may_leave F.moment F.left_since F.faults
+        (IsRepairOf (F.may_fail folder.old)) (IsRepairOf (F.may_fail folder.old))
+        folder.old folder.new) }
+{
     let files = SavedFiles::read_to_save(&mut *folder)?;
     let (files, session) = files.open_to_save(&mut *folder)?;
     apply(call, folder, details, &files, session, command, false)
@@ -78,7 +122,20 @@ pub(crate) fn apply<R: AllocGlobal, F: HistoryFolder, O: Write>(
     mut session: Session,
     command: &Command<'_>,
     only_if_needed: bool,
-) -> Result<(), Stop> {
+) -> Result<(), Stop>
+    requires { AllAre (F.held folder.old) (F.may_leave folder.old)
+        (λ h. AreInPlace h (bytes_read files.now)) }
+    ensures done { OnOk result (IsApplied F.held F.may_leave F.moment F.left_since F.faults
+        only_if_needed (asked_of command.now) files.now session.past
+        (Appends (O.contents call.old.output) (O.contents call.new.output))
+        folder.old folder.new) }
+    ensures any_moment { Ran F.held F.may_leave F.moment F.left_since F.faults
+        (IsApplying only_if_needed (asked_of command.now) files.now session.past)
+        (IsApplying only_if_needed (asked_of command.now) files.now session.past)
+        folder.old folder.new }
+    ensures nothing_saved { IfErr result (λ stop. IsFaultOfSaving stop
+        ⊎ Stays F.held F.may_leave F.moment F.left_since F.faults folder.old folder.new) }
+{
     let alloc = call.rt.alloc();
     let from = Place::of(&session);
     let before = target_names(alloc, &session)?;
@@ -95,9 +152,15 @@ pub(crate) fn apply<R: AllocGlobal, F: HistoryFolder, O: Write>(
     if is_accepted(&reply) {
         let takes_pins = takes_pins(command);
         refuse_standing(&*folder, details, before.as_slice(), &session, takes_pins)?;
-        files.rewrite(folder, &session)?;
     }
-    Ok(print(&mut call.output, text.as_bytes())?)
+    save_and_print(
+        &mut call.output,
+        folder,
+        files,
+        &session,
+        &reply,
+        text.as_bytes(),
+    )
 }
 
 /// Whether pins may be handed in to a command.

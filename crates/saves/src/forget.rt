@@ -1,11 +1,18 @@
 // What `forget` does, and what it would do.
 
-ghost use Rattle.std.specs.Prelude.{◌≡◌, IfErr, IfOk};
+ghost use Rattle.std.specs.Io.KnownBytes.{Appends};
+ghost use Rattle.std.specs.Prelude.{◌≡◌, ◌⊎◌, IfErr, IfOk, OnOk};
+ghost use Rattle.files.specs.Repair.{IsRepairOf};
+ghost use Rattle.commands.specs.Replies.{is_accepted, text_of_reply};
+ghost use Rattle.files.specs.Places.{AreInPlace};
+ghost use Rattle.folder.specs.Calls.{IsSettled, Ran};
+ghost use Rattle.saves.specs.Called.{AtAnyMoment, Called, ForgetIsDone, IsFaultOfSaving};
 ghost use Rattle.saves.specs.Forgets.{IsShortened, StopsShortening, forgotten_count};
 
+use crate::saved_reply::save_and_print;
 use calls::Call;
 use command_line::request::Beginning;
-use commands::{ReplyText, is_accepted};
+use commands::ReplyText;
 use details::Details;
 use files::saved_history::saved_session;
 use files::{HistoryFolder, SavedFiles};
@@ -22,16 +29,37 @@ pub fn forget_once<R: AllocGlobal, F: HistoryFolder, O: Write>(
     folder: &mut F,
     details: &mut Details,
     beginning: Beginning,
-) -> Result<(), Stop> {
+) -> Result<(), Stop>
+    // as after a restart
+    requires { IsSettled F.held F.may_leave folder.old }
+    ensures called { OnOk result (Called F.held F.may_leave F.moment F.left_since F.faults
+        (IsRepairOf (F.may_fail folder.old)) AreInPlace is_accepted
+        (ForgetIsDone beginning)
+        (λ reply. Appends (O.contents call.old.output) (O.contents call.new.output)
+        (text_of_reply reply))
+        folder.old folder.new) }
+    ensures any_moment { AtAnyMoment F.held F.may_leave F.moment F.left_since F.faults
+        (IsRepairOf (F.may_fail folder.old)) AreInPlace is_accepted
+        (ForgetIsDone beginning)
+        folder.old folder.new }
+    ensures nothing_saved { IfErr result (λ stop. IsFaultOfSaving stop
+        ⊎ Ran F.held F.may_leave F.moment F.left_since F.faults
+        (IsRepairOf (F.may_fail folder.old)) (IsRepairOf (F.may_fail folder.old))
+        folder.old folder.new) }
+{
     let files = SavedFiles::read_to_save(&mut *folder)?;
     let (files, mut session) = files.open_to_save(&mut *folder)?;
     let mut text = ReplyText::new(call.rt.alloc())?;
     let reply = noted(details, call.dir, &mut session, beginning, true)?;
     text.set(&reply);
-    if is_accepted(&reply) {
-        files.rewrite(folder, &session)?;
-    }
-    Ok(print(&mut call.output, text.as_bytes())?)
+    save_and_print(
+        &mut call.output,
+        folder,
+        &files,
+        &session,
+        &reply,
+        text.as_bytes(),
+    )
 }
 
 /// Prints the reply. Nothing is saved, and a save that was stopped isn't ended: its files are read as they stand.
@@ -58,7 +86,9 @@ fn noted(
     session: &mut Session,
     beginning: Beginning,
     is_saved: bool,
-) -> Result<Reply, Stop> {
+) -> Result<Reply, Stop>
+    ensures { IfOk result (IsShortened beginning session.old session.new) }
+{
     let steps = session.steps();
     let reply = shorten(session, beginning)?;
     let gone = steps.saturating_sub(session.steps());

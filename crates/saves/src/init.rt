@@ -1,5 +1,15 @@
 // What `init` does, and what it would do.
 
+ghost use Rattle.std.specs.Io.KnownBytes.{Appends};
+ghost use Rattle.std.specs.Prelude.{◌⊎◌, IfErr, IfOk, IfSome, OnOk};
+ghost use Rattle.files.specs.Places.{AreKnown, bytes_read};
+ghost use Rattle.commands.specs.Replies.{is_accepted, text_of_reply};
+ghost use Rattle.folder.specs.Calls.{IsSettled, Ran};
+ghost use Rattle.folder.specs.Repairs.{IsMoveOf};
+ghost use Rattle.inputs.specs.TargetFiles.{names_of};
+ghost use Rattle.journal.specs.declared.commands.Reply.TheVariants.{Done};
+ghost use Rattle.saves.specs.Called.{AtAnyMoment, Called, InitIsDone, IsFaultOfSaving};
+
 use calls::Call;
 use commands::ReplyText;
 use details::Details;
@@ -25,7 +35,23 @@ pub fn begin_history<R: Files + AllocGlobal, F: HistoryFolder, I: Read + Drop, O
     details: &mut Details,
     paths: FirstPaths<'_>,
     input: I,
-) -> Result<(), Stop> {
+) -> Result<(), Stop>
+    // as after a restart
+    requires { IsSettled F.held F.may_leave folder.old }
+    ensures called { OnOk result (Called F.held F.may_leave F.moment F.left_since F.faults
+        IsMoveOf AreKnown is_accepted
+        (InitIsDone (names_of paths.entry.targets.items) (names_of paths.entry.pins.items))
+        (λ reply. Appends (O.contents call.old.output) (O.contents call.new.output)
+        (text_of_reply reply))
+        folder.old folder.new) }
+    ensures any_moment { AtAnyMoment F.held F.may_leave F.moment F.left_since F.faults
+        IsMoveOf AreKnown is_accepted
+        (InitIsDone (names_of paths.entry.targets.items) (names_of paths.entry.pins.items))
+        folder.old folder.new }
+    ensures nothing_saved { IfErr result (λ stop. IsFaultOfSaving stop
+        ⊎ Ran F.held F.may_leave F.moment F.left_since F.faults IsMoveOf IsMoveOf
+        folder.old folder.new) }
+{
     let (rt, dir) = (call.rt, call.dir);
     let left = end_left(&mut *folder)?;
     let steps_before = steps_before(details, &*folder)?;
@@ -96,7 +122,13 @@ pub fn begin<R: Files + AllocGlobal, F: HistoryFolder, I: Read + Drop>(
     details: &mut Details,
     paths: FirstPaths<'_>,
     input: I,
-) -> Result<SavedHistory, Stop> {
+) -> Result<SavedHistory, Stop>
+    ensures begins { IfOk result (λ begun. InitIsDone
+        (names_of paths.entry.targets.items) (names_of paths.entry.pins.items)
+        begun.files begun.session (Done begun.session.past.cursor)) }
+    ensures known { IfOk result (λ begun. IfSome (F.held folder.now)
+        (λ h. AreKnown h (bytes_read begun.files))) }
+{
     let alloc = rt.alloc();
     let FirstInputs {
         files,

@@ -6,7 +6,9 @@ mod dry_run;
 mod edit;
 mod forget;
 mod init;
+pub mod laws;
 mod near_names;
+mod saved_reply;
 mod standing_lock;
 
 pub use crate::batch::{run_batch, try_commands};

@@ -35,3 +35,9 @@ abbrev pub IsOpened : LinesRead → SavedFiles → HistoryParts → Type 0
 IsOpened (read.New bytes) files history = StandFor files history
 IsOpened (read.Old bytes) files history = Opens bytes.items files.locks.entries files.journal (Ok history)
 IsOpened (read.Line name text) files history = StandFor files history
+
+-- an old file was read
+abbrev pub HasOld : LinesRead → Type 0
+HasOld (read.New bytes) = ⊥
+HasOld (read.Old bytes) = ⊤
+HasOld (read.Line name text) = ⊥

@@ -14,5 +14,5 @@ returns-in_ok-read-in-Retarget g c =
     rw (c.in-Retarget.is, c.unsaved-in-Retarget.ensures.session, c.unsaved-in-Retarget.ensures.edit) (
       c.in_ok-read-in-Retarget.read.history.files,
       c.in_ok-read-in-Retarget.ensures.history,
-      rw c.in_ok-paths-in-Retarget.ensures at c.in_ok-read-in-Retarget.ensures.edit,
+      rw (c.in_ok-paths-in-Retarget.ensures.targets, c.in_ok-paths-in-Retarget.ensures.pins) at c.in_ok-read-in-Retarget.ensures.edit,
     )

@@ -1,8 +1,0 @@
-use Rattle.std.proofs.Common.{IfSome}
-use Rattle.files.specs.Beside.{has}
-use Rattle.files.specs.Places.{LocksStandAt}
-use Rattle.files.proofs.saved_files.locks_in.Given as goal
-
--- the locks so far stand there
-abbrev pub invariant-loop-name : goal.invariant-loop-name
-invariant-loop-name g l = IfSome (g.F.Folder.held l.folder) (λ h. LocksStandAt (has l.beside) h l.locks.entries)

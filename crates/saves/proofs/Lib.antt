@@ -1,0 +1,3 @@
+pub mod CallRuns
+pub mod FirstRuns
+pub mod StoppedCalls
