@@ -1,2 +1,3 @@
 mod GivesWay
+pub mod Pools
 mod ReadLines

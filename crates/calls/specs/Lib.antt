@@ -1,4 +1,5 @@
 pub mod AskedEdits
+pub mod Pools
 pub mod Replaces
 pub mod Retargets
 pub mod Stops

@@ -1,29 +1,26 @@
 // What `replace` reads, and the edit that it is.
 
-ghost use Rattle.std.specs.Prelude.{◌≡◌, ◌⊎◌, IfOk, Ok, map};
+ghost use Rattle.std.specs.Prelude.{◌≡◌, ◌⊎◌, IfOk, IfSome, Ok, map};
 ghost use Rattle.files.specs.Places.{AllAre, AreInPlace, AreNamed, bytes_read};
 ghost use Rattle.files.specs.Repair.{IsRepairOf};
 ghost use Rattle.folder.specs.Calls.{IsSettled, Ran};
 ghost use Rattle.calls.specs.Replaces.{IsHandChanged, IsReplaced, IsReplacement, Replaces};
 ghost use Rattle.calls.specs.Tied.ReadLines.{AreMadeOf, AreReadFor, HasOld, IsOpened};
-ghost use Rattle.inputs.specs.Inputs.{requirements_in};
-ghost use Rattle.inputs.specs.PinsFiles.{ArePinsFor, given_by, pinned_targets, without_lock};
-ghost use Rattle.inputs.specs.TargetFiles.{names_read};
+ghost use Rattle.inputs.specs.Handed.{AreAt, IsAt, IsIndexAt};
+ghost use Rattle.inputs.specs.Inputs.{index_in, requirements_in};
+ghost use Rattle.inputs.specs.PinsFiles.{ArePinsOf, given_by, pins_paths, without_lock};
 
 use crate::read_edit::ReadEdit;
 use command_line::request::{EditOptions, NewLines, Replacement};
 use edits::{Edit, Refusal, ReqFile, Target, TargetPins, with_line_exchanged};
-use files::saved_history::{SavedHistory, saved_files};
-use files::{HistoryFolder, SavedFiles};
-use inputs::handed_in::HandedIn;
+use files::saved_history::SavedHistory;
+use files::{HistoryFolder, SavedFiles, StillFolder};
 use inputs::named_file::NamedBytes;
-use inputs::pins_files::{LentTarget, pins_of, pins_paths, read_pins};
-use inputs::{Fault, InputFile, LockFile, in_file, read_bytes, read_index, read_requirements};
+use inputs::pins_files::{LentTarget, pins_of, pins_paths as paths_of_pins, read_pins};
+use inputs::{Fault, HandedFiles, InputFile, in_file, read_index, read_requirements};
 use journal::Session;
 use lists::{Seq, Text};
 use std::alloc::{AllocError, Global};
-use std::io::Read;
-use std::rt::Files;
 use stops::Stop;
 
 /// The lines that take the place of all lines, or what they are made of.
@@ -39,18 +36,20 @@ pub enum LinesRead<'a> {
 
 /// Reads what a replacement needs, to save a history in the place of the one that it is made in. A save that was
 /// stopped is ended first. All files are read before a fault in one of them is told.
-pub(crate) fn replaced_to_save<R: Files + AllocGlobal, F: HistoryFolder, I: Read + Drop>(
-    rt: &R,
+pub(crate) fn replaced_to_save<F: HistoryFolder, G: HandedFiles>(
     folder: &mut F,
+    handed: &G,
     replacement: &Replacement<'_>,
     options: EditOptions<'_>,
-    input: I,
 ) -> Result<ReadEdit, Stop>
     requires { IsSettled F.held F.may_leave folder.old }
-    ensures history { IfOk result (λ read. IsReplaced replacement.now.lines read.history.files
-        read.history.session) }
-    ensures edit { IfOk result (λ read. IsReplacement replacement.now.lines
-        (pinned_targets replacement.now.pins) read.history.files read.history.session read.edit) }
+    ensures history { IfOk result (λ read. IsReplaced (G.handed handed.now)
+        replacement.now.lines read.history.files read.history.session) }
+    ensures edit { IfOk result (λ read. IsReplacement (G.handed handed.now)
+        replacement.now.lines (pins_paths replacement.now.pins)
+        read.history.files read.history.session read.edit) }
+    ensures index { IfOk result (λ read. IsIndexAt (G.handed handed.now)
+        options.entry.index.now read.history.snapshot) }
     ensures places { IfOk result (λ read. AllAre (F.held folder.new) (F.may_leave folder.new)
         (λ h. AreInPlace h (bytes_read read.history.files))) }
     ensures repaired { Ran F.held F.may_leave F.moment F.left_since F.faults
@@ -59,29 +58,31 @@ pub(crate) fn replaced_to_save<R: Files + AllocGlobal, F: HistoryFolder, I: Read
         folder.old folder.new }
 {
     let files = SavedFiles::read_to_save(&mut *folder)?;
-    let read = read_handed(rt, replacement, options, input)?;
+    let read = read_handed(handed, replacement, options)?;
     let (files, session) = opened_to_save(folder, files, &read.lines)?;
-    Ok(made_of(rt.alloc(), files, session, read)?)
+    Ok(made_of(handed.alloc(), files, session, read)?)
 }
 
 /// The same, where nothing is to be saved: the files are read as they stand.
-pub(crate) fn replaced<R: Files + AllocGlobal, I: Read + Drop>(
-    rt: &R,
-    dir: &str,
+pub(crate) fn replaced<F: StillFolder, G: HandedFiles>(
+    folder: &F,
+    handed: &G,
     replacement: &Replacement<'_>,
     options: EditOptions<'_>,
-    input: I,
 ) -> Result<ReadEdit, Stop>
-where
-    R::File: LockFile,
-    ensures history { IfOk result (λ read. IsReplaced replacement.now.lines read.history.files
-        read.history.session) }
-    ensures edit { IfOk result (λ read. IsReplacement replacement.now.lines
-        (pinned_targets replacement.now.pins) read.history.files read.history.session read.edit) }
+    ensures history { IfOk result (λ read. IsReplaced (G.handed handed.now)
+        replacement.now.lines read.history.files read.history.session) }
+    ensures edit { IfOk result (λ read. IsReplacement (G.handed handed.now)
+        replacement.now.lines (pins_paths replacement.now.pins)
+        read.history.files read.history.session read.edit) }
+    ensures index { IfOk result (λ read. IsIndexAt (G.handed handed.now)
+        options.entry.index.now read.history.snapshot) }
+    ensures places { IfOk result (λ read. IfSome (F.held folder.now)
+        (λ h. AreInPlace h (bytes_read read.history.files))) }
 {
-    let alloc = rt.alloc();
-    let files = saved_files(rt, dir)?;
-    let read = read_handed(rt, replacement, options, input)?;
+    let alloc = handed.alloc();
+    let files = folder.still_files()?;
+    let read = read_handed(handed, replacement, options)?;
     let session = opened(alloc, &files, &read.lines)?;
     Ok(made_of(alloc, files, session, read)?)
 }
@@ -127,25 +128,26 @@ struct HandedRead<'a> {
     pins: Vec<NamedBytes<Text>>,
 }
 
-fn read_handed<'a, R: Files + AllocGlobal, I: Read + Drop>(
-    rt: &R,
+fn read_handed<'a, G: HandedFiles>(
+    handed: &G,
     replacement: &Replacement<'a>,
     options: EditOptions<'_>,
-    input: I,
 ) -> Result<HandedRead<'a>, Fault>
-    ensures lines { IfOk result (λ read. AreReadFor replacement.now.lines read.lines) }
-    ensures pins { IfOk result
-        (λ read. names_read read.pins.items ≡ pinned_targets replacement.now.pins) }
+    ensures index { IfOk result (λ read. IsAt (G.handed handed.now) InputFile.Index
+        options.entry.index.now read.index.items) }
+    ensures lines { IfOk result
+        (λ read. AreReadFor (G.handed handed.now) replacement.now.lines read.lines) }
+    ensures pins { IfOk result (λ read. AreAt (G.handed handed.now) InputFile.Pins
+        (pins_paths replacement.now.pins) read.pins.items) }
 {
-    let index = read_bytes(rt, InputFile::Index, options.index)?;
-    let paths = pins_paths(rt.alloc(), replacement.pins.as_slice())?;
-    let mut handed_in = HandedIn::new(rt, input);
+    let index = handed.read(InputFile::Index, options.index)?;
+    let paths = paths_of_pins(handed.alloc(), replacement.pins.as_slice())?;
     let lines = match replacement.lines {
-        NewLines::File(path) => LinesRead::New(handed_in.read(InputFile::NewRequirements, path)?),
-        NewLines::Was(path) => LinesRead::Old(handed_in.read(InputFile::OldRequirements, path)?),
+        NewLines::File(path) => LinesRead::New(handed.read(InputFile::NewRequirements, path)?),
+        NewLines::Was(path) => LinesRead::Old(handed.read(InputFile::OldRequirements, path)?),
         NewLines::Line(name, text) => LinesRead::Line(name, text),
     };
-    let pins = read_pins(&mut handed_in, paths)?;
+    let pins = read_pins(handed, paths)?;
     Ok(HandedRead { index, lines, pins })
 }
 
@@ -158,8 +160,10 @@ fn made_of(
 ) -> Result<ReadEdit, Stop>
     ensures files { IfOk result (λ made. made.history.files ≡ files) }
     ensures session { IfOk result (λ made. made.history.session ≡ session) }
+    ensures index { IfOk result
+        (λ made. index_in read.entry.index.items ≡ Ok made.history.snapshot) }
     ensures edit { IfOk result (λ made. Replaces (AreMadeOf read.entry.lines files session)
-        (names_read read.entry.pins.items) session made.edit) }
+        (ArePinsOf read.entry.pins.items) session made.edit) }
 {
     let HandedRead { index, lines, pins } = read;
     let snapshot = in_file(InputFile::Index, read_index(alloc, index.as_slice()))?;
@@ -217,7 +221,7 @@ fn pins_for_targets(
     read: Vec<NamedBytes<Text>>,
 ) -> Result<Seq<TargetPins>, Fault>
     ensures { IfOk result
-        (λ pins. ArePinsFor (names_read read.items) (map without_lock targets.now) pins) }
+        (λ pins. ArePinsOf read.items (map without_lock targets.now) pins) }
 {
     let given = lent_targets(alloc, targets)?;
     pins_of(alloc, read, given.as_slice())

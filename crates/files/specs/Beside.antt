@@ -50,10 +50,6 @@ FilesStandBeside files held = AreBeside (map (λ file. name_of file) files) held
 abbrev pub StandFor : SavedFiles → HistoryParts → Type 0
 StandFor files history = Opens files.requirements.items files.locks.entries files.journal (Ok history)
 
--- some files stand for this history
-abbrev pub SomeStandFor : HistoryParts → Type 0
-SomeStandFor history = (files : SavedFiles) × StandFor files history
-
 -- whether a state has this requirements file
 abbrev pub has_lines : List ℕ → State → Bool
 has_lines requirements state = bytes_eq (concat state.lines) requirements

@@ -8,3 +8,4 @@ pub mod RewriteParts
 pub mod Rewrites
 pub mod Saving
 pub mod TargetLocks
+pub mod Told

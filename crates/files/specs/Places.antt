@@ -97,3 +97,9 @@ pub record IsHeldOf (history : HistoryParts) (held : Held) : Type 0 where
   pub is : IsSaved history saved
   pub opens : OpensAs history saved
   pub places : AreInPlace held (bytes_saved saved)
+
+-- this is the history of files that were read, which stand in their places if it is known what the folder holds
+pub record IsReadOf (held : Option Held) (history : HistoryParts) : Type 0 where
+  pub files : SavedFiles
+  pub opens : Opens files.requirements.items files.locks.entries files.journal (Ok history)
+  pub places : IfSome held (λ h. AreInPlace h (bytes_read files))

@@ -6,11 +6,19 @@ ghost use Rattle.inputs.specs.FileNames.{name_of};
 ghost use Rattle.files.specs.Places.{IsUnsaved};
 
 use crate::history_folder::HistoryFolder;
+use crate::links::link_of;
+use crate::lock_names::lock_names_in;
 use crate::rewrite::name_of;
+use crate::saved_files::SavedFiles;
+use crate::still_folder::StillFolder;
 use folder::{Folder, WriteFault};
-use inputs::{Fault, InputFile, LockFile, passed_over, path_of, read_as, read_bytes, sync_folder};
+use inputs::{
+    Fault, InputFile, LinkOut, LockFile, lock_to_read, passed_over, path_of, read_as, read_bytes,
+    sync_folder,
+};
 use lists::Text;
 use std::alloc::{AllocError, Global};
+use std::collections::BTreeSet;
 use std::fs::{File, Metadata, OpenFile, OpenOptions};
 use std::io::{ErrorKind, Write};
 use std::os::unix::fs::MetadataExt;
@@ -132,6 +140,10 @@ where
         }
     }
 
+    fn link_out(&self, file: InputFile) -> Result<Option<LinkOut>, Fault> {
+        link_of(self.rt, self.dir, file)
+    }
+
     fn add(&mut self, files: Vec<InputFile>) -> Result<(), AllocError> {
         for file in files {
             self.add_with(file, None)?;
@@ -154,6 +166,20 @@ where
             WriteFault::OutOfMemory => Fault::OutOfMemory,
             WriteFault::Unwritten => self.last_unwritten(),
         }
+    }
+}
+
+impl<'a, R: Files + AllocGlobal + Clone + Drop> StillFolder for Disk<'a, R>
+where
+    R::File: LockFile,
+{
+    fn still_files(&self) -> Result<SavedFiles, Fault> {
+        let _lock = lock_to_read(self.rt, self.dir)?;
+        SavedFiles::read(self)
+    }
+
+    fn lock_names(&self) -> Result<BTreeSet<Text>, Fault> {
+        lock_names_in(self.rt, self.dir)
     }
 }
 

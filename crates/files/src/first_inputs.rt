@@ -3,23 +3,21 @@
 ghost use Rattle.std.specs.Prelude.{◌≡◌, IfOk, IfSome, Ok, map};
 ghost use Rattle.files.specs.FirstTargets.{AreTargetsOf};
 ghost use Rattle.files.specs.Places.{AreKnown, bytes_read};
+ghost use Rattle.inputs.specs.Handed.{IsIndexAt};
 ghost use Rattle.inputs.specs.Inputs.{requirements_in};
-ghost use Rattle.inputs.specs.PinsFiles.{ArePinsFor, given_by};
-ghost use Rattle.inputs.specs.TargetFiles.{names_of, names_read, targets_in};
+ghost use Rattle.inputs.specs.PinsFiles.{ArePinsOf, given_by};
+ghost use Rattle.inputs.specs.TargetFiles.{targets_in};
 
 use crate::history_folder::HistoryFolder;
 use crate::saved_files::SavedFiles;
 use edits::{FirstTargets, ReqFile, TargetName, Targets};
-use inputs::handed_in::HandedIn;
 use inputs::named_file::{NamedBytes, NamedPath};
 use inputs::pins_files::{LentTarget, pins_of, read_pins};
 use inputs::target_files::{TargetPath, read_all, targets_of};
-use inputs::{Fault, InputFile, in_file, read_bytes, read_index, read_requirements};
+use inputs::{Fault, HandedFiles, InputFile, in_file, read_index, read_requirements};
 use lists::Text;
 use snapshot::Snapshot;
 use std::alloc::{AllocError, Global};
-use std::io::Read;
-use std::rt::Files;
 
 /// Where the files stand that a history begins with, beside the requirements file.
 #[derive(Drop)]
@@ -42,30 +40,31 @@ pub struct FirstInputs {
 
 /// Reads the requirements file of a folder, an index, the environments of targets, and files of pins, which standard
 /// input may be one of. No history and no lock is read. All files are read before a fault in one of them is told.
-pub fn first_inputs<R: Files + AllocGlobal, F: HistoryFolder, I: Read + Drop>(
-    rt: &R,
+pub fn first_inputs<F: HistoryFolder, G: HandedFiles>(
     folder: &F,
+    handed: &G,
     paths: FirstPaths<'_>,
-    input: I,
 ) -> Result<FirstInputs, Fault>
     ensures known { IfOk result (λ first. IfSome (F.held folder.now)
         (λ h. AreKnown h (bytes_read first.files))) }
     ensures lines { IfOk result
         (λ first. requirements_in first.files.requirements.items ≡ Ok first.lines) }
     ensures first { IfOk result
-        (λ first. AreTargetsOf (names_of paths.entry.targets.items)
-        (names_of paths.entry.pins.items) first.first) }
+        (λ first. AreTargetsOf (G.handed handed.now) paths.entry.targets.items
+        paths.entry.pins.items first.first) }
+    ensures index { IfOk result
+        (λ first. IsIndexAt (G.handed handed.now) paths.entry.index.now first.snapshot) }
 {
-    let alloc = rt.alloc();
+    let alloc = folder.alloc();
     let FirstPaths {
         index,
         targets,
         pins,
     } = paths;
     let files = SavedFiles::requirements_alone(folder)?;
-    let index = read_bytes(rt, InputFile::Index, index)?;
-    let environments = read_all(rt, targets)?;
-    let pins = read_pins(&mut HandedIn::new(rt, input), pins)?;
+    let index = handed.read(InputFile::Index, index)?;
+    let environments = read_all(handed, targets)?;
+    let pins = read_pins(handed, pins)?;
     let lines = read_requirements(alloc, files.requirements());
     let lines = in_file(InputFile::Requirements, lines)?;
     let snapshot = in_file(InputFile::Index, read_index(alloc, index.as_slice()))?;
@@ -87,7 +86,7 @@ pub fn targets_with_pins(
 ) -> Result<FirstTargets, Fault>
     ensures targets { IfOk result (λ first. targets_in environments.items ≡ Ok first.targets) }
     ensures pins { IfOk result
-        (λ first. ArePinsFor (names_read pins.items) first.targets first.pins) }
+        (λ first. ArePinsOf pins.items first.targets first.pins) }
 {
     let targets = targets_of(alloc, environments)?;
     let pins = pins_of(alloc, pins, named_targets(alloc, &targets)?.as_slice())?;

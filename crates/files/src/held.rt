@@ -1,17 +1,18 @@
 // What the files of a folder tell of a history, also where somebody else changed the requirements file alone.
 
-use crate::disk::Disk;
+ghost use Rattle.std.specs.Prelude.{◌≡◌, IfOk};
+ghost use Rattle.inputs.specs.Handed.{IsIndexAt};
+ghost use Rattle.files.specs.Told.{IsToldOf, Tells, cursor_of};
+
+use crate::history_folder::HistoryFolder;
 use crate::saved_files::SavedFiles;
-use crate::saved_history::saved_files;
+use crate::still_folder::StillFolder;
 use crate::stopped_save::is_left;
 use edits::{Change, ReqFile, Target};
-use inputs::{
-    Fault, InputFault, InputFile, LockFile, in_file, read_bytes, read_index, read_requirements,
-};
+use inputs::{Fault, HandedFiles, InputFault, InputFile, in_file, read_index, read_requirements};
 use journal::{Session, Told};
 use snapshot::Snapshot;
 use std::alloc::Global;
-use std::rt::Files;
 
 /// What the files of a folder tell of a history.
 #[derive(Drop)]
@@ -32,7 +33,9 @@ pub struct LinesNow {
 
 impl Held {
     /// The place of the present state.
-    pub fn cursor(&self) -> usize {
+    pub fn cursor(&self) -> usize
+        ensures { result ≡ cursor_of self.now }
+    {
         match self {
             Held::History(session) => session.cursor(),
             Held::Changed(told, _) => told.cursor,
@@ -73,39 +76,40 @@ impl Held {
 }
 
 /// What the files of the folder tell. Nothing is written to them meanwhile.
-pub fn held_history<R: Files + AllocGlobal>(rt: &R, dir: &str) -> Result<Held, Fault>
-where
-    R::File: LockFile,
+pub fn held_history<F: StillFolder>(folder: &F) -> Result<Held, Fault>
+    ensures { IfOk result (IsToldOf (F.held folder.now)) }
 {
-    let files = saved_files(rt, dir)?;
-    held_in(rt, dir, &files)
+    let files = folder.still_files()?;
+    held_in(folder, &files)
 }
 
 /// The same, and an index. All files are read before a fault in one of them is told.
-pub fn held_over<R: Files + AllocGlobal>(
-    rt: &R,
-    dir: &str,
+pub fn held_over<F: StillFolder, G: HandedFiles>(
+    folder: &F,
+    handed: &G,
     index: &str,
 ) -> Result<(Held, Snapshot), Fault>
-where
-    R::File: LockFile,
+    ensures history { IfOk result (λ read. IsToldOf (F.held folder.now) read.0) }
+    ensures index { IfOk result (λ read. IsIndexAt (G.handed handed.now) index.now read.1) }
 {
-    let files = saved_files(rt, dir)?;
-    let bytes = read_bytes(rt, InputFile::Index, index)?;
-    let held = held_in(rt, dir, &files)?;
-    let snapshot = in_file(InputFile::Index, read_index(rt.alloc(), bytes.as_slice()))?;
+    let files = folder.still_files()?;
+    let bytes = handed.read(InputFile::Index, index)?;
+    let held = held_in(folder, &files)?;
+    let snapshot = in_file(
+        InputFile::Index,
+        read_index(folder.alloc(), bytes.as_slice()),
+    )?;
     Ok((held, snapshot))
 }
 
 /// What these files of the folder tell.
-pub fn held_in<R: Files + AllocGlobal>(rt: &R, dir: &str, files: &SavedFiles) -> Result<Held, Fault>
-where
-    R::File: LockFile,
+pub fn held_in<F: HistoryFolder>(folder: &F, files: &SavedFiles) -> Result<Held, Fault>
+    ensures { IfOk result (Tells files.now) }
 {
-    match files.open(rt.alloc()) {
+    match files.open(folder.alloc()) {
         Ok(session) => Ok(Held::History(session)),
         Err(Fault::Input(InputFile::Requirements, InputFault::Disagrees)) => {
-            held_without(rt, dir, files)
+            held_without(folder, files)
         }
         Err(fault) => Err(fault),
     }
@@ -113,19 +117,14 @@ where
 
 /// What the locks and the journal tell. That the requirements file is another is the fault where more is wrong, or where
 /// a save that was stopped may have put it there.
-fn held_without<R: Files + AllocGlobal>(
-    rt: &R,
-    dir: &str,
-    files: &SavedFiles,
-) -> Result<Held, Fault>
-where
-    R::File: LockFile,
+fn held_without<F: HistoryFolder>(folder: &F, files: &SavedFiles) -> Result<Held, Fault>
+    ensures { IfOk result (Tells files.now) }
 {
-    if is_left(&Disk::new(rt, dir))? {
+    if is_left(folder)? {
         return Err(Fault::Input(InputFile::Requirements, InputFault::Disagrees));
     }
-    match files.told(rt.alloc()) {
-        Ok(told) => Ok(Held::Changed(told, lines_in(rt.alloc(), files.requirements())?)),
+    match files.told(folder.alloc()) {
+        Ok(told) => Ok(Held::Changed(told, lines_in(folder.alloc(), files.requirements())?)),
         Err(Fault::Input(_, _)) => {
             Err(Fault::Input(InputFile::Requirements, InputFault::Disagrees))
         }

@@ -7,7 +7,7 @@ ghost use Rattle.files.specs.Beside.{FilesStandBeside};
 ghost use Rattle.files.specs.Places.{IsUnread, IsUnsaved, standing};
 
 use folder::{Folder, WriteFault};
-use inputs::{Fault, InputFile};
+use inputs::{Fault, InputFile, LinkOut};
 use lists::Text;
 use std::alloc::{AllocError, Global};
 
@@ -28,6 +28,9 @@ pub trait HistoryFolder: Folder {
 
     /// Whether something stands in the place of a file, or beside it. What can't be told counts as nothing.
     fn stands(&self, file: &InputFile, is_beside: bool) -> Result<bool, Fault>;
+
+    /// Where the link in the place of a file leads, if that is no file of reqlock's. What can't be told counts as none.
+    fn link_out(&self, file: InputFile) -> Result<Option<LinkOut>, Fault>;
 
     /// Has calls name files.
     fn add(&mut self, files: Vec<InputFile>) -> Result<(), AllocError>

@@ -1,6 +1,6 @@
 -- Files of pins, and the targets that they are for. All of it is reqlock's own rule.
-use Rattle.std.specs.Prelude.{◌≡◌, ℕ, ◌==◌, ◌/◌, ◌&&◌, nat_lt, count_by, Bool, List, filter, flat_map, length, map, Result, Ok, Err, if◌then◌else◌}
-use Rattle.std.specs.List.{list_any}
+use Rattle.std.specs.Prelude.{◌≡◌, ℕ, ◌==◌, ◌/◌, ◌&&◌, nat_eq, nat_lt, codes, count_by, Bool, List, [], ◌∷◌, filter, flat_map, length, map, Result, Ok, Err, if◌then◌else◌}
+use Rattle.std.specs.List.{ends_with, list_any}
 use Rattle.std.specs.Str.{bytes_eq}
 use Rattle.markers.specs.Environment.{Texts}
 use Rattle.pep440.specs.Version.{VersionParts}
@@ -15,7 +15,13 @@ use Rattle.inputs.specs.declared.input_files.InputFault.TheVariants as inputs
 use Rattle.inputs.specs.declared.pins_files.PinsFile.{PinsFile}
 use Rattle.inputs.specs.declared.pins_files.LentTarget.{LentTarget}
 use Rattle.inputs.specs.declared.unread.Unread.TheVariants.{ManyDots}
-use Rattle.inputs.specs.TargetFiles.{names_of, target_file_of}
+use Rattle.inputs.specs.Faults.{of_file}
+use Rattle.inputs.specs.Handed.{AreAt, Handed}
+use Rattle.inputs.specs.TargetFiles.{in_front, target_file_of}
+use Rattle.inputs.specs.declared.fault.Fault.{Fault}
+use Rattle.inputs.specs.declared.input_files.InputFile.TheVariants.{Pins}
+use Rattle.inputs.specs.declared.named_file.NamedBytes.{NamedBytes}
+use Rattle.inputs.specs.declared.named_file.NamedPath.{NamedPath}
 
 -- what was read, or its fault as that of an input
 abbrev pub as_pins : Result PinFile PinFault → Result PinFile InputFault
@@ -64,10 +70,27 @@ without_lock target = (target.name, target.environment)
 abbrev pub pins_for : List PinsFile → List LentTarget → List TargetPins
 pins_for files targets = pins_for_each files (map given_by targets)
 
--- files that were read for these targets pin this for each of these named environments
-abbrev pub ArePinsFor : List (List ℕ) → List (List ℕ × Texts) → List TargetPins → Type 0
-ArePinsFor targets given pins = (files : List PinsFile) × (map (λ f. f.target) files ≡ targets) × (pins ≡ pins_for_each files given)
+-- the file of pins that bytes are, with the target that it is for; a path that ends so is that of a lock
+abbrev pub with_target : List ℕ → Result PinFile Fault → Result PinsFile Fault
+with_target target (Ok file) = Ok (record { target = target; file = file })
+with_target target (Err fault) = Err fault
 
--- the targets that values of `--pins` name, each before the first `=`
-abbrev pub pinned_targets : List (List ℕ) → List (List ℕ)
-pinned_targets values = names_of (map target_file_of values)
+abbrev pub named_pins : NamedBytes (List ℕ) → Result PinsFile Fault
+named_pins read = with_target read.name (of_file (Pins read.name) (pin_file_in (ends_with nat_eq read.path (codes ".toml")) read.bytes.items))
+
+-- the files of pins that bytes are; the first that are none are told
+abbrev pub pins_files_in : List (NamedBytes (List ℕ)) → Result (List PinsFile) Fault
+pins_files_in [] = Ok []
+pins_files_in (one ∷ others) = in_front (named_pins one) (pins_files_in others)
+
+-- the files that these bytes are pin this for each of these named environments
+abbrev pub ArePinsOf : List (NamedBytes (List ℕ)) → List (List ℕ × Texts) → List TargetPins → Type 0
+ArePinsOf read given pins = (files : List PinsFile) × (pins_files_in read ≡ Ok files) × (pins ≡ pins_for_each files given)
+
+-- the same of files at these paths
+abbrev pub ArePinsFor : Handed → List (NamedPath (List ℕ)) → List (List ℕ × Texts) → List TargetPins → Type 0
+ArePinsFor handed paths given pins = (read : List (NamedBytes (List ℕ))) × AreAt handed Pins paths read × ArePinsOf read given pins
+
+-- the files that values of `--pins` name
+abbrev pub pins_paths : List (List ℕ) → List (NamedPath (List ℕ))
+pins_paths values = map target_file_of values

@@ -42,10 +42,6 @@ unless_repeated files (Some name) = Err (DuplicateTarget name)
 abbrev pub names_of : List (NamedPath (List ℕ)) → List (List ℕ)
 names_of files = map (λ file. file.name) files
 
--- the names of targets whose files were read
-abbrev pub names_read : List (NamedBytes (List ℕ)) → List (List ℕ)
-names_read files = map (λ file. file.name) files
-
 -- whether each value has the name of a target
 abbrev pub are_named : List (List ℕ) → Bool
 are_named values = list_all (λ value. is_target_name (name_in value)) values

@@ -2,7 +2,7 @@
 //!
 //! `input_files` names the files and reads them, each refused for its own fault, which `fault` tells. Calls lock one
 //! another out of a folder by `folder_lock`. The values of `--env` and of `--pins` name files in `target_files` and
-//! `pins_files`, and a call is handed files beside those of its folder by `handed_in`. No history is known here.
+//! `pins_files`, and a call is handed files beside those of its folder by `handed_files`. No history is known here.
 //!
 //! A file of pins has versions that somebody hands in, to be kept beside those of a lock: a lock of reqlock (PEP 751), or
 //! a requirements file whose lines have one `==` each, such as `pip freeze` prints.
@@ -15,6 +15,7 @@
 
 mod fault;
 mod folder_lock;
+mod handed_files;
 pub mod handed_in;
 mod input_files;
 mod link_out;
@@ -28,6 +29,7 @@ mod unread;
 
 pub use crate::fault::{Fault, in_file, passed_over, unwritten};
 pub use crate::folder_lock::{LockFile, lock_to_read, lock_to_save, sync_folder};
+pub use crate::handed_files::HandedFiles;
 pub use crate::input_files::{
     InputFault, InputFile, NO_REGULAR_FILE, TOO_LONG, path_of, read_as, read_bytes,
     read_environment, read_file, read_index, read_requirements,

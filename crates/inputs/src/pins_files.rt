@@ -4,11 +4,13 @@ ghost use Rattle.lists.specs.Answers.{Answers};
 ghost use Rattle.std.specs.Prelude.{◌≡◌, ◌++◌, IfOk, OnOk, map};
 ghost use Rattle.inputs.specs.Pins.{pins_in};
 ghost use Rattle.inputs.specs.PinsFiles as spec;
-ghost use Rattle.inputs.specs.TargetFiles.{names_of, names_read, target_file_of};
+ghost use Rattle.inputs.specs.Handed.{AreAt};
+ghost use Rattle.inputs.specs.TargetFiles.{target_file_of};
+ghost use Rattle.inputs.specs.declared.fault.Fault.TheVariants as faults;
 ghost use Rattle.inputs.specs.declared.input_files.InputFault.TheVariants.{OutOfMemory};
 
 use crate::fault::{Fault, in_file};
-use crate::handed_in::HandedIn;
+use crate::handed_files::HandedFiles;
 use crate::input_files::{InputFault, InputFile};
 use crate::named_file::{NamedBytes, NamedPath};
 use crate::pin_fault::PinFault;
@@ -19,8 +21,6 @@ use edits::{Environment, Name, TargetName, TargetPins};
 use lists::{Seq, Text};
 use pep440::Version;
 use std::alloc::{AllocError, Global};
-use std::io::Read;
-use std::rt::Files;
 
 // How many dots any lock may have.
 const MANY_DOTS: usize = 1000;
@@ -62,15 +62,16 @@ fn pins_path(alloc: Global, value: &str) -> Result<NamedPath<Text>, AllocError>
 }
 
 /// The bytes of the files, read in the order of the command line.
-pub fn read_pins<R: Files + AllocGlobal, I: Read + Drop>(
-    handed_in: &mut HandedIn<'_, R, I>,
+pub fn read_pins<G: HandedFiles>(
+    handed: &G,
     paths: Vec<NamedPath<Text>>,
 ) -> Result<Vec<NamedBytes<Text>>, Fault>
-    ensures { IfOk result (λ read. names_read read.items ≡ names_of paths.items) }
+    ensures { IfOk result
+        (λ read. AreAt (G.handed handed.now) InputFile.Pins paths.items read.items) }
 {
-    let mut read = Vec::with_capacity(handed_in.alloc(), paths.len())?;
+    let mut read = Vec::with_capacity(handed.alloc(), paths.len())?;
     for NamedPath { name, path } in paths {
-        let bytes = handed_in.read(InputFile::Pins(name.clone()?), path.as_str())?;
+        let bytes = handed.read(InputFile::Pins(name.clone()?), path.as_str())?;
         read.push(NamedBytes { name, path, bytes })?;
     }
     Ok(read)
@@ -119,17 +120,25 @@ fn as_input(read: Result<PinFile, PinFault>) -> Result<PinFile, InputFault>
 }
 
 /// The files that the bytes are; faults are told in their order.
-fn pins_files(alloc: Global, read: Vec<NamedBytes<Text>>) -> Result<Vec<PinsFile>, Fault>
-    ensures { IfOk result (λ files. map (λ f. f.target) files.items ≡ names_read read.items) }
+fn pins_files(alloc: Global, read: Vec<NamedBytes<Text>>) -> Result<Seq<PinsFile>, Fault>
+    ensures { Answers faults.OutOfMemory (spec.pins_files_in read.items) result }
 {
     let mut files = Vec::with_capacity(alloc, read.len())?;
-    for NamedBytes { name, path, bytes } in read {
-        let is_lock = path.as_str().ends_with(".toml");
-        let file = InputFile::Pins(name.clone()?);
-        let file = in_file(file, read_pin_file(alloc, is_lock, bytes.as_slice()))?;
-        files.push(PinsFile { target: name, file })?;
+    for named in read {
+        files.push(pins_file(alloc, named)?)?;
     }
-    Ok(files)
+    Ok(Seq::from_vec(files))
+}
+
+/// The file that the bytes are: a lock where its path ends so, else a requirements file.
+fn pins_file(alloc: Global, read: NamedBytes<Text>) -> Result<PinsFile, Fault>
+    ensures { Answers faults.OutOfMemory (spec.named_pins read) result }
+{
+    let NamedBytes { name, path, bytes } = read;
+    let is_lock = path.as_str().as_bytes().ends_with(b".toml");
+    let file = InputFile::Pins(name.clone()?);
+    let file = in_file(file, read_pin_file(alloc, is_lock, bytes.as_slice()))?;
+    Ok(PinsFile { target: name, file })
 }
 
 /// What the files pin for each of the targets. The first file that is for none of them is told, behind the first that
@@ -140,7 +149,7 @@ pub fn pins_of(
     targets: &[LentTarget<'_>],
 ) -> Result<Seq<TargetPins>, Fault>
     ensures { IfOk result (λ pins.
-        spec.ArePinsFor (names_read read.items) (map spec.given_by targets.now) pins) }
+        spec.ArePinsOf read.items (map spec.given_by targets.now) pins) }
 {
     let files = pins_files(alloc, read)?;
     for file in files.as_slice() {

@@ -7,17 +7,18 @@ ghost use Rattle.states.specs.TargetNames.{is_target_name};
 ghost use Rattle.states.specs.declared.refusal.Refusal.TheVariants.{BadTarget, DuplicateTarget};
 ghost use Rattle.inputs.specs.Faults.{refused};
 ghost use Rattle.inputs.specs.FileNames.{parts_of};
-ghost use Rattle.inputs.specs.TargetFiles.{are_named, environments_in, has_name, name_in, named_environment, names_of, names_read, path_named, repeated, target_file_of, target_files_of, targets_in};
+ghost use Rattle.inputs.specs.Handed.{AreAt};
+ghost use Rattle.inputs.specs.TargetFiles.{are_named, environments_in, has_name, name_in, named_environment, names_of, path_named, repeated, target_file_of, target_files_of, targets_in};
 ghost use Rattle.inputs.specs.declared.fault.Fault.TheVariants.{OutOfMemory};
 
 use crate::fault::{Fault, in_file};
-use crate::input_files::{InputFile, read_bytes, read_environment};
+use crate::handed_files::HandedFiles;
+use crate::input_files::{InputFile, read_environment};
 use crate::named_file::{NamedBytes, NamedPath};
 use edits::{Environment, Refusal, TargetName, Targets};
 use lists::{Seq, Text};
 use std::alloc::{AllocError, Global};
 use std::collections::BTreeSet;
-use std::rt::Files;
 
 /// The name of a target, and where the file of its environment stands.
 pub type TargetPath = NamedPath<TargetName>;
@@ -141,16 +142,17 @@ fn refuse_twice(alloc: Global, files: &[TargetPath]) -> Result<(), Fault>
 }
 
 /// The bytes of the environments, read in the order of the command line.
-pub fn read_all<R: Files + AllocGlobal>(
-    rt: &R,
+pub fn read_all<G: HandedFiles>(
+    handed: &G,
     files: Vec<TargetPath>,
 ) -> Result<Vec<NamedBytes<TargetName>>, Fault>
-    ensures { IfOk result (λ read. names_read read.items ≡ names_of files.items) }
+    ensures { IfOk result
+        (λ read. AreAt (G.handed handed.now) InputFile.Environment files.items read.items) }
 {
-    let mut read = Vec::with_capacity(rt.alloc(), files.len())?;
+    let mut read = Vec::with_capacity(handed.alloc(), files.len())?;
     for NamedPath { name, path } in files {
         let file = InputFile::Environment(name.clone()?);
-        let bytes = read_bytes(rt, file, path.as_str())?;
+        let bytes = handed.read(file, path.as_str())?;
         read.push(NamedBytes { name, path, bytes })?;
     }
     Ok(read)

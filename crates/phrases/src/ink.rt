@@ -1,6 +1,8 @@
 // The colours of parts of a text. Who writes a part says its ink; without colours nothing but the part is written.
 
 ghost use Rattle.std.specs.Prelude.{◌≡◌, ◌++◌, false, IfOk, string_bytes};
+ghost use Rattle.pep440.specs.Canonical.{canonical};
+ghost use Rattle.phrases.specs.Plain.{change_text};
 
 use crate::style::Style;
 use pep440::Version;
@@ -59,7 +61,11 @@ impl Style {
         name: &str,
         old: &str,
         new: &str,
-    ) -> Result<(), AllocError> {
+    ) -> Result<(), AllocError>
+        ensures plain { self.colors ≡ false →
+            IfOk result (λ _. string_bytes text.new
+            ≡ string_bytes text.old ++ change_text name.now old.now new.now) }
+    {
         self.add_inked(text, Ink::Bold, name)?;
         text.push_str(" ")?;
         self.add_inked(text, Ink::Red, old)?;
@@ -74,7 +80,12 @@ impl Style {
         name: &str,
         old: &Version,
         new: &Version,
-    ) -> Result<(), AllocError> {
+    ) -> Result<(), AllocError>
+        ensures plain { self.colors ≡ false →
+            IfOk result (λ _. string_bytes text.new
+            ≡ string_bytes text.old
+            ++ change_text name.now (canonical old.now) (canonical new.now)) }
+    {
         self.add_inked(text, Ink::Bold, name)?;
         text.push_str(" ")?;
         self.begin(text, Ink::Red)?;

@@ -6,3 +6,5 @@ pub mod SavedLocks
 pub mod NothingWritten
 pub mod StoppedSaves
 pub mod Repeats
+pub mod CutJournals
+pub mod StoppedJournals

@@ -39,7 +39,7 @@ use Rattle.power_cuts.proofs.Writes.{WritesOnly, removed-or_not, take-none, writ
 abbrev IsOneOf : Option (List ℕ) → List ℕ → List ℕ → Type 0
 IsOneOf found one other = (found ≡ None) ⊎ ((found ≡ Some one) ⊎ (found ≡ Some other))
 
-not-both : {X : Type 0} (found : Option X) (x : X) → found ≡ None → found ≡ Some x → ⊥
+pub not-both : {X : Type 0} (found : Option X) (x : X) → found ≡ None → found ≡ Some x → ⊥
 not-both found x none is = let e : None ≡ Some x = sym none ∙ is in cc
 
 which-one : (found : Option (List ℕ)) (one other is : List ℕ) → IsOneOf found one other → found ≡ Some is → (is ≡ one) ⊎ (is ≡ other)
@@ -89,7 +89,7 @@ none-begins begin begins = not-both (cut_line []) (begins.line, begin.1) refl be
 -- ---- files that are told apart
 
 -- all of these files are among those
-within-all : (all : List (List ℕ)) (files : FileBytes) → ((text : List ℕ) → Contains (digested files) text → Contains all text) → AreWithin all files.requirements files.locks
+pub within-all : (all : List (List ℕ)) (files : FileBytes) → ((text : List ℕ) → Contains (digested files) text → Contains all text) → AreWithin all files.requirements files.locks
 within-all all files within = record {
   first = within files.requirements (Contains-here files.requirements (texts_of files.locks));
   others = λ text there. within text (Contains-there files.requirements (texts_of files.locks) text there);

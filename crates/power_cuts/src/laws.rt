@@ -1,5 +1,6 @@
 //! Laws of what the files in a folder stand for.
 
+ghost use Rattle.power_cuts.specs.Journals.{ACutJournalIsNone, AStopLeavesAnOldJournalOrTheNew, AnOldJournalTellsItsHistory, NoOldJournalWhereNoneStood};
 ghost use Rattle.power_cuts.specs.OneHistory.{AFolderStandsForOneHistory, AJournalTellsOneHistory};
 ghost use Rattle.power_cuts.specs.Repeated.{RepairsComeToOne};
 ghost use Rattle.power_cuts.specs.Standing.{PlacesStandForOneHistory, WhatStandsIsOpened};
@@ -39,6 +40,25 @@ pub fn what_stands_is_opened()
 /// two of the files that differ have the same digest.
 pub fn a_stop_leaves_the_old_or_the_new()
     ensures law { AStopLeavesTheOldOrTheNew }
+{
+    files_stand_for_one_history();
+}
+
+/// A journal that was cut off opens with no files.
+pub fn a_cut_journal_is_none()
+    ensures law { ACutJournalIsNone }
+{}
+
+/// A journal of before tells the history that it told then, if it stood alone; and where none stood, there is none.
+pub fn an_old_journal_tells_its_history()
+    ensures told { AnOldJournalTellsItsHistory }
+    ensures none { NoOldJournalWhereNoneStood }
+{}
+
+/// A save over any folder that was stopped at any moment, and any repair, leave a journal of before, with the history that
+/// it tells; or they lead to the new history.
+pub fn a_stop_leaves_an_old_journal_or_the_new()
+    ensures law { AStopLeavesAnOldJournalOrTheNew }
 {
     files_stand_for_one_history();
 }

@@ -1,5 +1,9 @@
 // The program: what each subcommand does.
 
+ghost use Rattle.std.specs.Prelude.{◌≡◌, false};
+ghost use Rattle.folder.specs.Calls.{IsSettled, Stays};
+ghost use Rattle.reqlock.specs.Saving.{does_save, saves};
+
 use calls::subcommand_files::{
     environments_of, has_old_lines, index_of, lines_of, locked, named_in, refuse_no_folder,
 };
@@ -12,9 +16,10 @@ use command_line::request::{
 };
 use commands::batch::StreamFault;
 use details::{CallFiles, Details};
-use files::Disk;
-use inputs::LockFile;
+use files::{Disk, StillFolder};
+use inputs::handed_in::HandedIn;
 use inputs::target_files::{TargetPath, target_files};
+use inputs::{HandedFiles, LockFile};
 use journal::Command;
 use reports::report::{Status, report, report_fault};
 use saves::{
@@ -183,18 +188,19 @@ where
         Ok(targets) => {
             files.targets = targets.clone()?;
             details.tell_of(rt, &files, is_environment_idle)?;
-            obey_in(call, subcommand, targets, input, details, errors)
+            obey_on_disk(call, subcommand, targets, input, details, errors)
         }
         Err(fault) => Err(Stop::from(fault)),
     };
     if let Err(stop) = &done {
-        add_near_names(rt, call.dir, details, stop)?;
+        add_near_names(&Disk::new(rt, call.dir), details, stop)?;
         details.add_stop(rt, &files, stop)?;
     }
     done
 }
 
-fn obey_in<R: Files + Clock + AllocGlobal + Clone + Drop, I: Read + Drop, O: Write, E: Write>(
+/// Does a subcommand on the disk. Standard input has the commands of some, and may be a file that others are handed.
+fn obey_on_disk<R: Files + Clock + AllocGlobal + Clone + Drop, I: Read + Drop, O: Write, E: Write>(
     call: &mut Call<'_, R, O>,
     subcommand: Subcommand<'_>,
     targets: Vec<TargetPath>,
@@ -206,62 +212,127 @@ where
     R::File: LockFile,
 {
     refuse_no_folder(call.dir, &subcommand)?;
-    let _lock = locked(call.rt, call.dir, &subcommand)?;
+    let rt = call.rt;
+    let _lock = locked(rt, call.dir, &subcommand)?;
+    let mut disk = Disk::new(rt, call.dir);
+    let nothing: &[u8] = &[];
+    if reads_commands(&subcommand) {
+        let handed = HandedIn::new(rt, nothing);
+        obey_in(
+            call, &mut disk, &handed, subcommand, targets, input, details, errors,
+        )
+    } else {
+        let handed = HandedIn::new(rt, input);
+        obey_in(
+            call, &mut disk, &handed, subcommand, targets, nothing, details, errors,
+        )
+    }
+}
+
+/// Whether standard input has the commands of a subcommand.
+fn reads_commands(subcommand: &Subcommand<'_>) -> bool {
+    matches!(subcommand, Subcommand::Batch { .. } | Subcommand::Try(_))
+}
+
+/// Does a subcommand in a folder, with the files that are handed in and the commands of an input.
+pub fn obey_in<
+    R: Clock + AllocGlobal,
+    F: StillFolder,
+    G: HandedFiles,
+    I: Read + Drop,
+    O: Write,
+    E: Write,
+>(
+    call: &mut Call<'_, R, O>,
+    folder: &mut F,
+    handed: &G,
+    subcommand: Subcommand<'_>,
+    targets: Vec<TargetPath>,
+    input: I,
+    details: &mut Details,
+    errors: &mut E,
+) -> Result<(), Stop>
+    // as after a restart
+    requires { IsSettled F.held F.may_leave folder.old }
+    ensures reads { does_save subcommand.entry ≡ false
+        → Stays F.held F.may_leave F.moment F.left_since F.faults folder.old folder.new }
+{
     match subcommand {
-        Subcommand::Init(options, saving) => init(call, details, &options, saving, targets, input),
+        Subcommand::Init(options, saving) => {
+            init(call, folder, handed, details, &options, saving, targets)
+        }
         Subcommand::Edit(asked, options, Saving::Save) => {
-            let mut disk = Disk::new(call.rt, call.dir);
-            edit_once(call, &mut disk, details, asked, options, targets, input)
+            edit_once(call, folder, handed, details, asked, options, targets)
         }
         Subcommand::Edit(asked, options, Saving::DryRun) => {
-            rehearse_edit(call, details, asked, options, targets, input)
+            rehearse_edit(call, &*folder, handed, details, asked, options, targets)
         }
-        Subcommand::Undo(saving) => step(call, details, &Command::Undo, saving),
-        Subcommand::Redo(saving) => step(call, details, &Command::Redo, saving),
-        Subcommand::Forget(beginning, saving) => forget(call, details, beginning, saving),
+        Subcommand::Undo(saving) => step(call, folder, details, &Command::Undo, saving),
+        Subcommand::Redo(saving) => step(call, folder, details, &Command::Redo, saving),
+        Subcommand::Forget(beginning, saving) => forget(call, folder, details, beginning, saving),
         Subcommand::Batch {
             options,
             is_all_or_none,
-        } => {
-            let mut disk = Disk::new(call.rt, call.dir);
-            run_batch(call, &mut disk, details, options, is_all_or_none, input)
+        } => run_batch(
+            call,
+            folder,
+            handed,
+            details,
+            options,
+            is_all_or_none,
+            input,
+        ),
+        Subcommand::Try(options) => {
+            try_commands(call, &*folder, handed, options.index, targets, input)
         }
-        Subcommand::Try(options) => try_commands(call, options.index, targets, input),
-        Subcommand::Show(shown, format) => print_shown(call, errors, shown, format),
-        Subcommand::Log { is_long, format } => print_history(call, errors, is_long, format),
-        Subcommand::Diff(range, format) => print_diff(call, errors, range, format),
-        Subcommand::Check(index, format) => check(call, details, errors, index, format),
+        Subcommand::Show(shown, format) => {
+            print_shown(call, &*folder, handed, errors, shown, format)
+        }
+        Subcommand::Log { is_long, format } => {
+            print_history(call, &*folder, errors, is_long, format)
+        }
+        Subcommand::Diff(range, format) => print_diff(call, &*folder, errors, range, format),
+        Subcommand::Check(index, format) => {
+            check(call, &*folder, handed, details, errors, index, format)
+        }
         Subcommand::Outdated(index, format) => {
-            print_outdated(call, &mut details.lacks, index, format)
+            print_outdated(call, &*folder, handed, &mut details.lacks, index, format)
         }
-        Subcommand::Export(export) => print_export(call, errors, &export),
-        Subcommand::Skipped(index) => print_skipped(call, index),
+        Subcommand::Export(export) => print_export(call, &*folder, handed, errors, &export),
+        Subcommand::Skipped(index) => print_skipped(call, handed, index),
         Subcommand::Why(question, told) => {
             let watch = Waiting::new(call.rt, &mut *errors, details.manner.is_person);
             let width = call.style.explained_width();
             let telling = Telling { told, width, watch };
-            answer_why(call, &mut details.lacks, question, telling, targets, input)
+            answer_why(
+                call,
+                &*folder,
+                handed,
+                &mut details.lacks,
+                question,
+                telling,
+                targets,
+            )
         }
     }
 }
 
 /// Whether the files belong together. That the lock is current over another index than its own is noted.
-fn check<R: Files + AllocGlobal + Clone + Drop, O: Write, E: Write>(
+fn check<R: AllocGlobal, F: StillFolder, G: HandedFiles, O: Write, E: Write>(
     call: &mut Call<'_, R, O>,
+    folder: &F,
+    handed: &G,
     details: &mut Details,
     errors: &mut E,
     index: Option<&str>,
     format: Format,
-) -> Result<(), Stop>
-where
-    R::File: LockFile,
-{
+) -> Result<(), Stop> {
     let errors = if details.manner.is_quiet {
         None
     } else {
         Some(errors)
     };
-    if let Some(change) = print_check(call, errors, index, format)? {
+    if let Some(change) = print_check(call, folder, handed, errors, index, format)? {
         if details.tells() {
             details.changes = diff_text(call.rt.alloc(), &change, details.manner.style)?;
         }
@@ -270,61 +341,58 @@ where
 }
 
 /// A first lock, with the pins that it keeps, saved or not.
-fn init<R: Files + AllocGlobal, I: Read + Drop, O: Write>(
+fn init<R: AllocGlobal, F: StillFolder, G: HandedFiles, O: Write>(
     call: &mut Call<'_, R, O>,
+    folder: &mut F,
+    handed: &G,
     details: &mut Details,
     options: &InitOptions<'_>,
     saving: Saving,
     targets: Vec<TargetPath>,
-    input: I,
 ) -> Result<(), Stop>
-where
-    R::File: LockFile,
+    requires { IsSettled F.held F.may_leave folder.old }
+    ensures reads { saves saving ≡ false
+        → Stays F.held F.may_leave F.moment F.left_since F.faults folder.old folder.new }
 {
     let paths = first_paths(call.rt.alloc(), options, targets)?;
     match saving {
-        Saving::Save => {
-            let mut disk = Disk::new(call.rt, call.dir);
-            begin_history(call, &mut disk, details, paths, input)
-        }
-        Saving::DryRun => rehearse_init(call, details, paths, input),
+        Saving::Save => begin_history(call, folder, handed, details, paths),
+        Saving::DryRun => rehearse_init(call, &*folder, handed, details, paths),
     }
 }
 
 /// An undo or a redo, saved or not.
-fn step<R: Files + AllocGlobal, O: Write>(
+fn step<R: AllocGlobal, F: StillFolder, O: Write>(
     call: &mut Call<'_, R, O>,
+    folder: &mut F,
     details: &mut Details,
     command: &Command<'_>,
     saving: Saving,
 ) -> Result<(), Stop>
-where
-    R::File: LockFile,
+    requires { IsSettled F.held F.may_leave folder.old }
+    ensures reads { saves saving ≡ false
+        → Stays F.held F.may_leave F.moment F.left_since F.faults folder.old folder.new }
 {
     match saving {
-        Saving::Save => {
-            let mut disk = Disk::new(call.rt, call.dir);
-            step_once(call, &mut disk, details, command)
-        }
-        Saving::DryRun => rehearse_step(call, details, command),
+        Saving::Save => step_once(call, folder, details, command),
+        Saving::DryRun => rehearse_step(call, &*folder, details, command),
     }
 }
 
 /// A shorter history, saved or not.
-fn forget<R: Files + AllocGlobal, O: Write>(
+fn forget<R: AllocGlobal, F: StillFolder, O: Write>(
     call: &mut Call<'_, R, O>,
+    folder: &mut F,
     details: &mut Details,
     beginning: Beginning,
     saving: Saving,
 ) -> Result<(), Stop>
-where
-    R::File: LockFile,
+    requires { IsSettled F.held F.may_leave folder.old }
+    ensures reads { saves saving ≡ false
+        → Stays F.held F.may_leave F.moment F.left_since F.faults folder.old folder.new }
 {
     match saving {
-        Saving::Save => {
-            let mut disk = Disk::new(call.rt, call.dir);
-            forget_once(call, &mut disk, details, beginning)
-        }
-        Saving::DryRun => rehearse_forget(call, details, beginning),
+        Saving::Save => forget_once(call, folder, details, beginning),
+        Saving::DryRun => rehearse_forget(call, &*folder, details, beginning),
     }
 }

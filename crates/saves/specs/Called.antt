@@ -1,12 +1,14 @@
 -- What a call that saves leaves in its folder. All of it is reqlock's own rule.
-use Rattle.std.specs.Prelude.{◌≡◌, ◌⊎◌, ℕ, Bool, true, false, List, [], Option, Ok}
+use Rattle.std.specs.Prelude.{◌≡◌, ◌⊎◌, ℕ, Bool, true, false, List, [], Option, IfSome, Ok}
 use Rattle.command_line.specs.declared.invocation.AskedEdit.{AskedEdit}
 use Rattle.command_line.specs.declared.invocation.Beginning.{Beginning}
-use Rattle.commands.specs.Runs.{SomeDoneTo}
+use Rattle.commands.specs.BatchLine.{commands_of}
+use Rattle.commands.specs.Runs.{AnsweredTo, SomeDoneTo}
 use Rattle.commands.specs.declared.batch_end.BatchEnd.{BatchEnd}
 use Rattle.commands.specs.declared.batch_end.BatchEnd.TheVariants.{Save, Leave, Refuse}
 use Rattle.commands.specs.declared.batch.StreamFault.TheVariants as streams
 use Rattle.calls.specs.AskedEdits.{IsHistoryFor, IsMadeOf}
+use Rattle.calls.specs.Pools.{IsPoolFor}
 use Rattle.edits.specs.declared.first_targets.FirstTargets.{FirstTargets}
 use Rattle.edits.specs.declared.request.Edit.{Edit}
 use Rattle.files.specs.Beside.{StandFor}
@@ -16,6 +18,7 @@ use Rattle.files.specs.Saving.{IsSavedOver, IsSaving}
 use Rattle.files.specs.declared.saved_files.SavedFiles.{SavedFiles}
 use Rattle.folder.specs.Calls.{Ran}
 use Rattle.folder.specs.Held.{Held}
+use Rattle.inputs.specs.Handed.{Handed, IsIndexAt}
 use Rattle.inputs.specs.Inputs.{requirements_in}
 use Rattle.inputs.specs.declared.input_files.InputFile.{InputFile}
 use Rattle.inputs.specs.declared.named_file.NamedPath.{NamedPath}
@@ -36,27 +39,29 @@ use Rattle.saves.specs.Forgets.{IsShortened}
 abbrev pub StepIsDone : Asked → SavedFiles → HistoryParts → Reply → Type 0
 StepIsDone asked files after reply = (before : HistoryParts) × StandFor files before × GoesOn false before.past asked after.past reply
 
--- an edit: the one that is asked for, over an index, where each locked version that is still needed may have to stay
-abbrev pub EditIsDone : AskedEdit → List (NamedPath (List ℕ)) → Bool → Bool → SavedFiles → HistoryParts → Reply → Type 0
-EditIsDone asked targets keeps_locked only_if_needed files after reply =
-    (before : HistoryParts) × IsHistoryFor asked files before
-    × ((edit : Edit) × (pool : Pool) × (pool.only_kept ≡ keeps_locked) × IsMadeOf asked targets files before edit
+-- an edit: the one that is asked for, with what was handed in
+abbrev pub EditIsDone : Handed → AskedEdit → List ℕ → List (NamedPath (List ℕ)) → Bool → Bool → SavedFiles → HistoryParts → Reply → Type 0
+EditIsDone handed asked index targets keeps_locked only_if_needed files after reply =
+    (before : HistoryParts) × IsHistoryFor handed asked files before
+    × ((edit : Edit) × (pool : Pool) × IsPoolFor handed index keeps_locked pool × IsMadeOf handed asked targets files before edit
     × GoesOn only_if_needed before.past (Editing edit pool) after.past reply)
 
 -- `forget`
 abbrev pub ForgetIsDone : Beginning → SavedFiles → HistoryParts → Reply → Type 0
 ForgetIsDone beginning files after reply = (before : HistoryParts) × StandFor files before × IsShortened beginning before after reply
 
--- `batch`: commands and their replies, and whether one of these is `ok`
-abbrev pub BatchIsDone : Bool → Bool → SavedFiles → HistoryParts → BatchEnd → Type 0
-BatchIsDone is_all_or_none keeps_locked files after end =
-    (before : HistoryParts) × StandFor files before × ((pool : Pool) × (pool.only_kept ≡ keeps_locked) × SomeDoneTo is_all_or_none end pool before after)
+-- `batch`: commands and their replies, and whether one of these is `ok`; of an input that is known its commands, whose replies are written
+abbrev pub BatchIsDone : Handed → List ℕ → Bool → Bool → Option (List ℕ) → Option (List ℕ) → Option (List ℕ) → SavedFiles → HistoryParts → BatchEnd → Type 0
+BatchIsDone handed index is_all_or_none keeps_locked input printed prints files after end =
+    (before : HistoryParts) × StandFor files before
+    × ((pool : Pool) × IsPoolFor handed index keeps_locked pool × SomeDoneTo is_all_or_none end pool before after
+    × IfSome input (λ bytes. AnsweredTo is_all_or_none end pool (commands_of bytes) before after printed prints))
 
--- `init`: the lines of the requirements file are locked over an index for the targets of these names, with what is handed in for them
-abbrev pub InitIsDone : List (List ℕ) → List (List ℕ) → SavedFiles → HistoryParts → Reply → Type 0
-InitIsDone targets pinned_for files after reply =
-    (lines : ReqFile) × (first : FirstTargets) × (index : Snapshot) × (requirements_in files.requirements.items ≡ Ok lines)
-    × AreTargetsOf targets pinned_for first × BeginsWith lines first.targets first.pins index after.past × (after.changes ≡ []) × (reply ≡ Done after.past.cursor)
+-- `init`: the lines of the requirements file are locked over the index at a path for the targets at these paths, with what is handed in for them
+abbrev pub InitIsDone : Handed → List ℕ → List (NamedPath (List ℕ)) → List (NamedPath (List ℕ)) → SavedFiles → HistoryParts → Reply → Type 0
+InitIsDone handed index targets pins files after reply =
+    (lines : ReqFile) × (first : FirstTargets) × (over : Snapshot) × (requirements_in files.requirements.items ≡ Ok lines) × IsIndexAt handed index over
+    × AreTargetsOf handed targets pins first × BeginsWith lines first.targets first.pins over after.past × (after.changes ≡ []) × (reply ≡ Done after.past.cursor)
 
 -- something is to be saved at the end of a batch
 abbrev pub is_save : BatchEnd → Bool

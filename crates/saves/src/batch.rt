@@ -1,8 +1,9 @@
 // What `batch` and `try` do.
 
 ghost use Rattle.std.specs.Bool.{⊤};
-ghost use Rattle.std.specs.Prelude.{◌⊎◌, IfErr, IfOk, OnOk};
-ghost use Rattle.commands.specs.Runs.{SomeDoneTo};
+ghost use Rattle.std.specs.Prelude.{◌⊎◌, IfErr, IfOk, IfSome, OnOk};
+ghost use Rattle.commands.specs.BatchLine.{commands_of};
+ghost use Rattle.commands.specs.Runs.{AnsweredTo, SomeDoneTo};
 ghost use Rattle.files.specs.Repair.{IsRepairOf};
 ghost use Rattle.files.specs.Places.{AreInPlace};
 ghost use Rattle.folder.specs.Calls.{IsSettled, Ran};
@@ -16,24 +17,24 @@ use commands::batch::batch_to_its_end;
 use commands::{BatchEnd, Counted, RefusedLine};
 use details::Details;
 use edits::Pool;
+use files::HistoryFolder;
 use files::first_inputs::FirstPaths;
 use files::saved_history::{SavedHistory, history_to_save};
 use files::standing_lock::target_names;
-use files::{Disk, HistoryFolder};
-use inputs::LockFile;
+use inputs::HandedFiles;
 use inputs::target_files::TargetPath;
 use journal::Session;
 use reports::print;
 use std::alloc::Global;
 use std::io::{Read, Write};
-use std::rt::Files;
 use stops::Stop;
 
 /// Does the commands of the input over an index, prints the replies, and saves at the end where one
 /// was accepted. Where all or none are to be done, nothing is saved if one was refused, and the call stops.
-pub fn run_batch<R: Files + AllocGlobal, F: HistoryFolder, I: Read + Drop, O: Write>(
+pub fn run_batch<R: AllocGlobal, F: HistoryFolder, G: HandedFiles, I: Read + Drop, O: Write>(
     call: &mut Call<'_, R, O>,
     folder: &mut F,
+    handed: &G,
     details: &mut Details,
     options: EditOptions<'_>,
     is_all_or_none: bool,
@@ -43,35 +44,32 @@ pub fn run_batch<R: Files + AllocGlobal, F: HistoryFolder, I: Read + Drop, O: Wr
     requires { IsSettled F.held F.may_leave folder.old }
     ensures called { OnOk result (Called F.held F.may_leave F.moment F.left_since F.faults
         (IsRepairOf (F.may_fail folder.old)) AreInPlace is_save
-        (BatchIsDone is_all_or_none options.entry.keeps_locked)
+        (BatchIsDone (G.handed handed.now) options.entry.index.now is_all_or_none
+        options.entry.keeps_locked (I.remaining input)
+        (O.contents call.old.output) (O.contents call.new.output))
         (λ end. ⊤)
         folder.old folder.new) }
     ensures any_moment { AtAnyMoment F.held F.may_leave F.moment F.left_since F.faults
         (IsRepairOf (F.may_fail folder.old)) AreInPlace is_save
-        (BatchIsDone is_all_or_none options.entry.keeps_locked)
+        (BatchIsDone (G.handed handed.now) options.entry.index.now is_all_or_none
+        options.entry.keeps_locked (I.remaining input)
+        (O.contents call.old.output) (O.contents call.new.output))
         folder.old folder.new }
     ensures nothing_saved { IfErr result (λ stop. IsFaultOfSaving stop
         ⊎ Ran F.held F.may_leave F.moment F.left_since F.faults
         (IsRepairOf (F.may_fail folder.old)) (IsRepairOf (F.may_fail folder.old))
         folder.old folder.new) }
 {
-    let rt = call.rt;
+    let alloc = call.rt.alloc();
     let SavedHistory {
         files,
         mut session,
         snapshot,
-    } = history_to_save(rt, &mut *folder, options.index)?;
+    } = history_to_save(&mut *folder, handed, options.index)?;
     let pool = pool_of(&snapshot, options);
-    let before = target_names(rt.alloc(), &session)?;
+    let before = target_names(alloc, &session)?;
     let output = &mut call.output;
-    let end = done_to_the_end(
-        rt.alloc(),
-        input,
-        output,
-        &mut session,
-        &pool,
-        is_all_or_none,
-    )?;
+    let end = done_to_the_end(alloc, input, output, &mut session, &pool, is_all_or_none)?;
     match end {
         BatchEnd::Save => {
             let before = before.as_slice();
@@ -89,19 +87,16 @@ pub fn run_batch<R: Files + AllocGlobal, F: HistoryFolder, I: Read + Drop, O: Wr
 
 /// Does the commands of the input on the state that `init` begins with, and writes the requirements
 /// that they lead to. Nothing is saved.
-pub fn try_commands<R: Files + AllocGlobal, I: Read + Drop, O: Write>(
+pub fn try_commands<R: AllocGlobal, F: HistoryFolder, G: HandedFiles, I: Read + Drop, O: Write>(
     call: &mut Call<'_, R, O>,
+    folder: &F,
+    handed: &G,
     index: &str,
     targets: Vec<TargetPath>,
     input: I,
-) -> Result<(), Stop>
-where
-    R::File: LockFile,
-{
+) -> Result<(), Stop> {
     let alloc = call.rt.alloc();
-    let disk = Disk::new(call.rt, call.dir);
     let mut none = Details::none(alloc);
-    let no_input: &[u8] = &[];
     let paths = FirstPaths {
         index,
         targets,
@@ -111,7 +106,7 @@ where
         files: _,
         mut session,
         snapshot,
-    } = begin(call.rt, &disk, &mut none, paths, no_input)?;
+    } = begin(folder, handed, &mut none, paths)?;
     let pool = Pool::whole(&snapshot);
     let _ = done_to_the_end(alloc, input, &mut call.output, &mut session, &pool, false)?;
     let text = session.state().lines().bytes(alloc)?;
@@ -127,8 +122,11 @@ fn done_to_the_end<I: Read + Drop, O: Write>(
     pool: &Pool<'_>,
     is_all_or_none: bool,
 ) -> Result<BatchEnd, Stop>
-    ensures { IfOk result
+    ensures done { IfOk result
         (λ end. SomeDoneTo is_all_or_none end pool.now session.old session.new) }
+    ensures answered { IfOk result (λ end. IfSome (I.remaining input) (λ bytes.
+        AnsweredTo is_all_or_none end pool.now (commands_of bytes) session.old session.new
+        (O.contents output.old) (O.contents output.new))) }
 {
     let mut source = Counted::new(input);
     let mut sink = Counted::new(output);

@@ -1,67 +1,88 @@
 // What `--dry-run` prints: an edit, `undo` or `redo` as it would be, of which nothing is saved.
 
+ghost use Rattle.std.specs.Io.KnownBytes.{Appends};
+ghost use Rattle.std.specs.Prelude.{◌++◌, List, ℕ, OnOk};
+ghost use Rattle.commands.specs.Replies.{text_of_reply};
+ghost use Rattle.journal.specs.Commands.{asked_of};
+ghost use Rattle.saves.specs.Called.{EditIsDone, StepIsDone};
+ghost use Rattle.saves.specs.Rehearsed.{IsRehearsed, IsRehearsedOn};
+
 use crate::edit::{applied, changed_from, takes_pins};
 use crate::standing_lock::refuse_standing;
 use calls::{Call, UnsavedEdit, asked_edit, difference_between, pool_of};
 use command_line::request::{AskedEdit, EditOptions};
 use commands::ReplyText;
 use details::{Changed, Details, Place};
-use files::Disk;
 use files::saved_history::saved_session;
 use files::standing_lock::target_names;
-use inputs::LockFile;
+use files::{HistoryFolder, StillFolder};
+use inputs::HandedFiles;
 use inputs::target_files::TargetPath;
 use journal::{Command, Session};
 use reports::print;
-use std::io::{Read, Write};
-use std::rt::Files;
+use std::io::Write;
 use stops::Stop;
 use texts::diff_text::diff_text;
 
 /// Makes one edit over an index, and prints the reply and what changed. A save that was stopped isn't ended:
 /// its files are read as they stand.
-pub fn rehearse_edit<R: Files + AllocGlobal, I: Read + Drop, O: Write>(
+pub fn rehearse_edit<R: AllocGlobal, F: StillFolder, G: HandedFiles, O: Write>(
     call: &mut Call<'_, R, O>,
+    folder: &F,
+    handed: &G,
     details: &mut Details,
     asked: AskedEdit<'_>,
     options: EditOptions<'_>,
     targets: Vec<TargetPath>,
-    input: I,
 ) -> Result<(), Stop>
-where
-    R::File: LockFile,
+    ensures { OnOk result (IsRehearsed (F.held folder.now)
+        (EditIsDone (G.handed handed.now) asked.entry options.entry.index.now targets.items
+        options.entry.keeps_locked options.entry.only_if_needed)
+        (λ reply. (change : List ℕ) × Appends (O.contents call.old.output)
+        (O.contents call.new.output) (text_of_reply reply ++ change))) }
 {
     let UnsavedEdit {
         session,
         snapshot,
         edit,
-    } = asked_edit(call.rt, call.dir, asked, options, targets, input)?;
+    } = asked_edit(folder, handed, asked, options, targets)?;
     let command = Command::Edit(edit, pool_of(&snapshot, options));
-    rehearse(call, details, session, &command, options.only_if_needed)
+    rehearse(
+        call,
+        folder,
+        details,
+        session,
+        &command,
+        options.only_if_needed,
+    )
 }
 
 /// Does one command that needs no index, in the same way.
-pub fn rehearse_step<R: Files + AllocGlobal, O: Write>(
+pub fn rehearse_step<R: AllocGlobal, F: StillFolder, O: Write>(
     call: &mut Call<'_, R, O>,
+    folder: &F,
     details: &mut Details,
     command: &Command<'_>,
 ) -> Result<(), Stop>
-where
-    R::File: LockFile,
+    ensures { OnOk result (IsRehearsed (F.held folder.now) (StepIsDone (asked_of command.now))
+        (λ reply. (change : List ℕ) × Appends (O.contents call.old.output)
+        (O.contents call.new.output) (text_of_reply reply ++ change))) }
 {
-    let session = saved_session(call.rt, call.dir)?;
-    rehearse(call, details, session, command, false)
+    let session = saved_session(folder)?;
+    rehearse(call, folder, details, session, command, false)
 }
 
-pub(crate) fn rehearse<R: Files + AllocGlobal, O: Write>(
+pub(crate) fn rehearse<R: AllocGlobal, F: HistoryFolder, O: Write>(
     call: &mut Call<'_, R, O>,
+    folder: &F,
     details: &mut Details,
     mut session: Session,
     command: &Command<'_>,
     only_if_needed: bool,
 ) -> Result<(), Stop>
-where
-    R::File: LockFile,
+    ensures { OnOk result (IsRehearsedOn only_if_needed session.past (asked_of command.now)
+        (λ reply. (change : List ℕ) × Appends (O.contents call.old.output)
+        (O.contents call.new.output) (text_of_reply reply ++ change))) }
 {
     let alloc = call.rt.alloc();
     let from = Place::of(&session);
@@ -70,7 +91,7 @@ where
     let reply = applied(alloc, details, &mut session, command, only_if_needed)?;
     text.set(&reply);
     refuse_standing(
-        &Disk::new(call.rt, call.dir),
+        folder,
         details,
         before.as_slice(),
         &session,

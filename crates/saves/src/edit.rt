@@ -21,37 +21,37 @@ use details::{Changed, Details, Place};
 use files::saved_history::SavedHistory;
 use files::standing_lock::target_names;
 use files::{HistoryFolder, SavedFiles};
+use inputs::HandedFiles;
 use inputs::target_files::TargetPath;
 use journal::{Command, Reply, Session};
 use std::alloc::Global;
-use std::io::{Read, Write};
-use std::rt::Files;
+use std::io::Write;
 use stops::{Stop, unless_refused};
 use texts::diff_text::diff_text;
 
 /// Makes one edit over an index. `targets` are those that take the place of the present ones, where it asks for some.
-pub fn edit_once<R: Files + AllocGlobal, F: HistoryFolder, I: Read + Drop, O: Write>(
+pub fn edit_once<R: AllocGlobal, F: HistoryFolder, G: HandedFiles, O: Write>(
     call: &mut Call<'_, R, O>,
     folder: &mut F,
+    handed: &G,
     details: &mut Details,
     asked: AskedEdit<'_>,
     options: EditOptions<'_>,
     targets: Vec<TargetPath>,
-    input: I,
 ) -> Result<(), Stop>
     // as after a restart
     requires { IsSettled F.held F.may_leave folder.old }
     ensures called { OnOk result (Called F.held F.may_leave F.moment F.left_since F.faults
         (IsRepairOf (MayGiveWay asked.entry (F.may_fail folder.old))) AreInPlace is_accepted
-        (EditIsDone asked.entry targets.items options.entry.keeps_locked
-        options.entry.only_if_needed)
+        (EditIsDone (G.handed handed.now) asked.entry options.entry.index.now targets.items
+        options.entry.keeps_locked options.entry.only_if_needed)
         (λ reply. Appends (O.contents call.old.output) (O.contents call.new.output)
         (text_of_reply reply))
         folder.old folder.new) }
     ensures any_moment { AtAnyMoment F.held F.may_leave F.moment F.left_since F.faults
         (IsRepairOf (MayGiveWay asked.entry (F.may_fail folder.old))) AreInPlace is_accepted
-        (EditIsDone asked.entry targets.items options.entry.keeps_locked
-        options.entry.only_if_needed)
+        (EditIsDone (G.handed handed.now) asked.entry options.entry.index.now targets.items
+        options.entry.keeps_locked options.entry.only_if_needed)
         folder.old folder.new }
     ensures nothing_saved { IfErr result (λ stop. IsFaultOfSaving stop
         ⊎ Ran F.held F.may_leave F.moment F.left_since F.faults
@@ -59,12 +59,11 @@ pub fn edit_once<R: Files + AllocGlobal, F: HistoryFolder, I: Read + Drop, O: Wr
         (IsRepairOf (MayGiveWay asked.entry (F.may_fail folder.old))) folder.old folder.new) }
 {
     let ReadEdit { history, edit } = asked_edit_to_save(
-        call.rt,
         &mut *folder,
+        handed,
         asked,
         options,
         targets,
-        input,
     )?;
     let SavedHistory {
         files,

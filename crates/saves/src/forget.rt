@@ -7,6 +7,7 @@ ghost use Rattle.commands.specs.Replies.{is_accepted, text_of_reply};
 ghost use Rattle.files.specs.Places.{AreInPlace};
 ghost use Rattle.folder.specs.Calls.{IsSettled, Ran};
 ghost use Rattle.saves.specs.Called.{AtAnyMoment, Called, ForgetIsDone, IsFaultOfSaving};
+ghost use Rattle.saves.specs.Rehearsed.{IsRehearsed};
 ghost use Rattle.saves.specs.Forgets.{IsShortened, StopsShortening, forgotten_count};
 
 use crate::saved_reply::save_and_print;
@@ -15,12 +16,10 @@ use command_line::request::Beginning;
 use commands::ReplyText;
 use details::Details;
 use files::saved_history::saved_session;
-use files::{HistoryFolder, SavedFiles};
-use inputs::LockFile;
+use files::{HistoryFolder, SavedFiles, StillFolder};
 use journal::{Reply, Session};
 use reports::print;
 use std::io::Write;
-use std::rt::Files;
 use stops::Stop;
 
 /// Has the history begin with a later state, saves it where that takes steps away, and prints the reply.
@@ -63,18 +62,19 @@ pub fn forget_once<R: AllocGlobal, F: HistoryFolder, O: Write>(
 }
 
 /// Prints the reply. Nothing is saved, and a save that was stopped isn't ended: its files are read as they stand.
-pub fn rehearse_forget<R: Files + AllocGlobal, O: Write>(
+pub fn rehearse_forget<R: AllocGlobal, F: StillFolder, O: Write>(
     call: &mut Call<'_, R, O>,
+    folder: &F,
     details: &mut Details,
     beginning: Beginning,
 ) -> Result<(), Stop>
-where
-    R::File: LockFile,
+    ensures { OnOk result (IsRehearsed (F.held folder.now) (ForgetIsDone beginning)
+        (λ reply. Appends (O.contents call.old.output) (O.contents call.new.output)
+        (text_of_reply reply))) }
 {
-    let (rt, dir) = (call.rt, call.dir);
-    let mut session = saved_session(rt, dir)?;
-    let mut text = ReplyText::new(rt.alloc())?;
-    let reply = noted(details, dir, &mut session, beginning, false)?;
+    let mut session = saved_session(folder)?;
+    let mut text = ReplyText::new(call.rt.alloc())?;
+    let reply = noted(details, call.dir, &mut session, beginning, false)?;
     text.set(&reply);
     Ok(print(&mut call.output, text.as_bytes())?)
 }

@@ -3,33 +3,27 @@
 use details::Details;
 use edits::Refusal;
 use files::held::held_in;
-use files::{Disk, SavedFiles};
-use inputs::LockFile;
+use files::{HistoryFolder, SavedFiles};
 use std::alloc::AllocError;
-use std::rt::Files;
 use stops::Stop;
 
 /// Notes them where a call stops since a name isn't locked. Files that tell no history have none.
-pub fn add_near_names<R: Files + AllocGlobal>(
-    rt: &R,
-    dir: &str,
+pub fn add_near_names<F: HistoryFolder>(
+    folder: &F,
     details: &mut Details,
     stop: &Stop,
-) -> Result<(), AllocError>
-where
-    R::File: LockFile,
-{
+) -> Result<(), AllocError> {
     let Stop::Refused(Refusal::NotLocked(name)) = stop else {
         return Ok(());
     };
     if !details.tells() {
         return Ok(());
     }
-    let Ok(files) = SavedFiles::read(&Disk::new(rt, dir)) else {
+    let Ok(files) = SavedFiles::read(folder) else {
         return Ok(());
     };
-    match held_in(rt, dir, &files) {
-        Ok(held) => details.add_not_locked(rt.alloc(), held.targets(), name.as_str()),
+    match held_in(folder, &files) {
+        Ok(held) => details.add_not_locked(folder.alloc(), held.targets(), name.as_str()),
         Err(_) => Ok(()),
     }
 }

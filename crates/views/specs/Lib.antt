@@ -1,2 +1,5 @@
+pub mod Checked
+pub mod Differences
 pub mod Views
+pub mod Why
 pub mod WhyNot

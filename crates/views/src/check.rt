@@ -1,8 +1,12 @@
 // What `check` prints: whether the files belong together, and whether the lock is that of the index at hand.
 
-ghost use Rattle.std.specs.Prelude.{◌≡◌, IfErr, IfOk, IfSome, MatchOption, None};
+ghost use Rattle.std.specs.Io.KnownBytes.{Appends};
+ghost use Rattle.std.specs.Prelude.{◌≡◌, IfErr, IfOk, IfSome, MatchOption, None, OnOk, codes, string_bytes};
 ghost use Rattle.changes.specs.Changes.{ChangeParts};
+ghost use Rattle.commands.specs.Replies.{text_of_reply};
 ghost use Rattle.journal.specs.Past.{present};
+ghost use Rattle.journal.specs.declared.commands.Reply.TheVariants.{Done};
+ghost use Rattle.views.specs.Checked.{IsChecked, IsFoundStale, IsIfLines, IsUnmoved};
 ghost use Rattle.views.specs.Views.{IsCurrent, IsOutOfDate, IsRelock, IsStale, StopsRelock, moves};
 
 use crate::stray_locks::say_stray_locks;
@@ -10,8 +14,9 @@ use calls::Call;
 use command_line::request::Format;
 use commands::ReplyText;
 use edits::{Change, Edit, Pool, Refusal, State, edit};
+use files::StillFolder;
 use files::saved_history::{saved_session, session_over};
-use inputs::{Fault, LockFile};
+use inputs::{Fault, HandedFiles};
 use journal::{Reply, Session};
 use phrases::Style;
 use reports::print;
@@ -19,7 +24,6 @@ use resolve::RESOLVER;
 use snapshot::Snapshot;
 use std::alloc::{AllocError, Global};
 use std::io::Write;
-use std::rt::Files;
 use stops::Stop;
 use texts::check_json::{check_json, current_json};
 use texts::diff_text::diff_text;
@@ -27,39 +31,44 @@ use texts::diff_text::diff_text;
 /// Prints the place of the present state, as the reply of a command that led to it would. Where an index is given,
 /// prints whether a new lock over it would move something, and what. Answers the change of a new lock that would change
 /// the digest of the index alone. Locks of no target are told first, where there are `errors` to tell them.
-pub fn print_check<R: Files + AllocGlobal + Clone + Drop, O: Write, E: Write>(
+pub fn print_check<R: AllocGlobal, F: StillFolder, G: HandedFiles, O: Write, E: Write>(
     call: &mut Call<'_, R, O>,
+    folder: &F,
+    handed: &G,
     errors: Option<&mut E>,
     index: Option<&str>,
     format: Format,
 ) -> Result<Option<Change>, Stop>
-where
-    R::File: LockFile,
+    ensures current { IfOk result (λ change. IsChecked (F.held folder.now) (G.handed handed.now)
+        index.entry format change
+        (Appends (O.contents call.old.output) (O.contents call.new.output))) }
+    ensures stale { IfErr result (λ stop. IsStale stop → IsFoundStale (F.held folder.now)
+        (G.handed handed.now) index.entry) }
 {
     let alloc = call.rt.alloc();
     match index {
         None => {
-            let session = saved_session(call.rt, call.dir)?;
-            tell_strays(call, &session, errors)?;
+            let session = saved_session(folder)?;
+            tell_strays(folder, &session, errors)?;
             print_place(alloc, session.cursor(), format, &mut call.output)?;
             Ok(None)
         }
         Some(index) => {
-            let (session, snapshot) = session_over(call.rt, call.dir, index)?;
-            tell_strays(call, &session, errors)?;
+            let (session, snapshot) = session_over(folder, handed, index)?;
+            tell_strays(folder, &session, errors)?;
             let style = call.style;
             print_current(alloc, &session, &snapshot, format, style, &mut call.output)
         }
     }
 }
 
-fn tell_strays<R: Files + AllocGlobal + Clone + Drop, O, E: Write>(
-    call: &Call<'_, R, O>,
+fn tell_strays<F: StillFolder, E: Write>(
+    folder: &F,
     session: &Session,
     errors: Option<&mut E>,
 ) -> Result<(), Fault> {
     match errors {
-        Some(errors) => say_stray_locks(call.rt, call.dir, session.state().targets(), errors),
+        Some(errors) => say_stray_locks(folder, session.state().targets(), errors),
         None => Ok(()),
     }
 }
@@ -69,7 +78,10 @@ fn print_place<O: Write>(
     place: usize,
     format: Format,
     output: &mut O,
-) -> Result<(), Stop> {
+) -> Result<(), Stop>
+    ensures { OnOk result (IsIfLines format (Appends (O.contents output.old)
+        (O.contents output.new) (text_of_reply (Done place)))) }
+{
     match format {
         Format::Lines => {
             let mut text = ReplyText::new(alloc)?;
@@ -92,6 +104,8 @@ pub fn print_current<O: Write>(
 ) -> Result<Option<Change>, Stop>
     ensures current { IfOk result (λ change. IfSome (present session.now.past)
         (λ state. IsCurrent state snapshot.now change)) }
+    ensures printed { OnOk result (IsIfLines format
+        (Appends (O.contents output.old) (O.contents output.new) (codes "current\n"))) }
     ensures stale { IfErr result (λ stop. IsStale stop → IfSome (present session.now.past)
         (λ state. (change : ChangeParts) × IsOutOfDate state snapshot.now change)) }
 {
@@ -125,7 +139,10 @@ fn current_text(
     change: Option<&Change>,
     format: Format,
     style: Style,
-) -> Result<String, AllocError> {
+) -> Result<String, AllocError>
+    ensures { IfOk result (λ text. IsUnmoved change.entry
+        → IsIfLines format (string_bytes text ≡ codes "current\n")) }
+{
     let moved = match change {
         Some(change) if moves(change) => Some(change),
         _ => None,

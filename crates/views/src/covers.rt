@@ -5,14 +5,13 @@ use changes::are_same;
 use clap::error::ErrorKind;
 use edits::{Environment, ReqFile, Target, TargetName};
 use exports::target_marker;
-use inputs::{Fault, InputFault, InputFile, read_bytes, read_environment};
+use inputs::{Fault, HandedFiles, InputFault, InputFile, read_environment};
 use lists::Text;
 use pep508::Marker;
 use phrases::add_plain;
 use reports::InputFaultText;
 use snapshot::Snapshot;
 use std::alloc::{AllocError, Global};
-use std::rt::Files;
 use stops::Stop;
 
 /// A target, and the marker of the environments in which its lock holds; none if it holds in all.
@@ -32,20 +31,20 @@ impl Drop for Held<'_> {
 
 /// A line for each file, with the targets that hold in its environment, and behind them a line for each target that another one
 /// covers. Where no target holds in some environment, this is what the call stops for.
-pub(crate) fn covers_text<R: Files + AllocGlobal>(
-    rt: &R,
+pub(crate) fn covers_text<G: HandedFiles>(
+    handed: &G,
     lines: &ReqFile,
     snapshot: &Snapshot,
     targets: &[Target],
     files: &[Text],
 ) -> Result<String, Stop> {
-    let alloc = rt.alloc();
+    let alloc = handed.alloc();
     let held = all_held(alloc, lines, snapshot, targets)?;
     let held = held.as_slice();
     let mut text = String::new(alloc);
     let mut is_covered = true;
     for file in files {
-        let environment = environment_at(rt, file.as_str())?;
+        let environment = environment_at(handed, file.as_str())?;
         add_plain(&mut text, file.as_str())?;
         add_holding(&mut text, held, &environment)?;
         is_covered = is_covered && is_held(held, &environment);
@@ -146,22 +145,22 @@ fn does_cover(held: &Held<'_>, other: &Held<'_>) -> bool {
 }
 
 /// The environment of a file that is asked about.
-fn environment_at<R: Files + AllocGlobal>(rt: &R, path: &str) -> Result<Environment, Stop> {
-    match read_at(rt, path) {
+fn environment_at<G: HandedFiles>(handed: &G, path: &str) -> Result<Environment, Stop> {
+    match read_at(handed, path) {
         Ok(environment) => Ok(environment),
-        Err(fault) => Err(no_environment(rt.alloc(), path, fault)),
+        Err(fault) => Err(no_environment(handed.alloc(), path, fault)),
     }
 }
 
-fn read_at<R: Files + AllocGlobal>(rt: &R, path: &str) -> Result<Environment, InputFault> {
-    let bytes = bytes_at(rt, path)?;
-    read_environment(rt.alloc(), bytes.as_slice())
+fn read_at<G: HandedFiles>(handed: &G, path: &str) -> Result<Environment, InputFault> {
+    let bytes = bytes_at(handed, path)?;
+    read_environment(handed.alloc(), bytes.as_slice())
 }
 
 /// The bytes of a file, which is told by its path and not by a name.
-fn bytes_at<R: Files + AllocGlobal>(rt: &R, path: &str) -> Result<Vec<u8>, InputFault> {
-    let file = InputFile::Environment(no_name(rt.alloc())?);
-    match read_bytes(rt, file, path) {
+fn bytes_at<G: HandedFiles>(handed: &G, path: &str) -> Result<Vec<u8>, InputFault> {
+    let file = InputFile::Environment(no_name(handed.alloc())?);
+    match handed.read(file, path) {
         Ok(bytes) => Ok(bytes),
         Err(Fault::Input(_, fault)) => Err(fault),
         Err(_) => Err(InputFault::OutOfMemory),

@@ -12,54 +12,50 @@ use exports::{
     JointFault, conditions_of, graph_text, joint_lock, marker_text_of, portable_text,
     requirements_text, target_named, unbound_text,
 };
+use files::StillFolder;
 use files::held::held_history;
 use files::saved_history::session_over;
-use inputs::LockFile;
+use inputs::HandedFiles;
 use reports::print;
 use snapshot::Snapshot;
 use std::alloc::{AllocError, Global};
 use std::io::Write;
-use std::rt::Files;
 use std::slice;
 use stops::{Stop, stop_of_usage};
 
 /// Prints the locks of the targets, or that of one, as another tool reads it; or which targets hold in environments.
-pub fn print_export<R: Files + AllocGlobal, O: Write, E: Write>(
+pub fn print_export<R: AllocGlobal, F: StillFolder, G: HandedFiles, O: Write, E: Write>(
     call: &mut Call<'_, R, O>,
+    folder: &F,
+    handed: &G,
     errors: &mut E,
     export: &Export<'_>,
-) -> Result<(), Stop>
-where
-    R::File: LockFile,
-{
+) -> Result<(), Stop> {
     let asks = !export.covers.is_empty();
     let text = match export.format {
         ExportFormat::Hashes | ExportFormat::Dot if asks => return Err(no_format(call.rt.alloc())),
-        ExportFormat::Hashes | ExportFormat::Dot => saved_text(call.rt, call.dir, export, errors)?,
-        ExportFormat::Pylock => portable(call.rt, call.dir, export)?,
+        ExportFormat::Hashes | ExportFormat::Dot => saved_text(folder, call.dir, export, errors)?,
+        ExportFormat::Pylock => portable(folder, handed, export)?,
     };
     print(&mut call.output, text.as_bytes())?;
     Ok(())
 }
 
 /// The lock of a target for pip, or the graph of the locks for Graphviz.
-fn saved_text<R: Files + AllocGlobal, E: Write>(
-    rt: &R,
+fn saved_text<F: StillFolder, E: Write>(
+    folder: &F,
     dir: &str,
     export: &Export<'_>,
     errors: &mut E,
-) -> Result<String, Stop>
-where
-    R::File: LockFile,
-{
-    let alloc = rt.alloc();
+) -> Result<String, Stop> {
+    let alloc = folder.alloc();
     let is_graph = matches!(export.format, ExportFormat::Dot);
     let printed = if is_graph {
         Printed::LocksWithLines
     } else {
         Printed::Locks
     };
-    let held = held_history(rt, dir)?;
+    let held = held_history(folder)?;
     say_changed(alloc, dir, &held, printed, errors)?;
     let targets = wanted_targets(alloc, held.targets(), export.target)?;
     if is_graph {
@@ -70,15 +66,16 @@ where
 
 /// The lock of the targets, with what was asked of their environments over the index that it was made of; or which of them hold in
 /// the environments that are asked about.
-fn portable<R: Files + AllocGlobal>(rt: &R, dir: &str, export: &Export<'_>) -> Result<String, Stop>
-where
-    R::File: LockFile,
-{
-    let alloc = rt.alloc();
+fn portable<F: StillFolder, G: HandedFiles>(
+    folder: &F,
+    handed: &G,
+    export: &Export<'_>,
+) -> Result<String, Stop> {
+    let alloc = folder.alloc();
     let Some(index) = export.index else {
         return Err(no_index(alloc));
     };
-    let (session, snapshot) = session_over(rt, dir, index)?;
+    let (session, snapshot) = session_over(folder, handed, index)?;
     let state = session.state();
     if state.digest() != snapshot.digest() {
         return Err(other_index(alloc));
@@ -86,7 +83,7 @@ where
     let targets = wanted_targets(alloc, state.targets(), export.target)?;
     let covers = export.covers.as_slice();
     match targets {
-        _ if !covers.is_empty() => covers_text(rt, state.lines(), &snapshot, targets, covers),
+        _ if !covers.is_empty() => covers_text(handed, state.lines(), &snapshot, targets, covers),
         [target] => Ok(portable_lock(alloc, state.lines(), &snapshot, target)?),
         _ => joint_text(alloc, state.lines(), &snapshot, targets),
     }

@@ -2,28 +2,27 @@
 
 use calls::Call;
 use command_line::request::Format;
+use files::StillFolder;
 use files::saved_history::session_over;
-use inputs::LockFile;
+use inputs::HandedFiles;
 use notes::Lacks;
 use reports::show;
 use std::io::Write;
-use std::rt::Files;
 use stops::Stop;
 use texts::outdated_text::{outdated_json, outdated_text};
 
 /// Prints the entries of each target that have newer releases in the index, and who holds them back. What the index lacks for
 /// still newer ones is noted.
-pub fn print_outdated<R: Files + AllocGlobal, O: Write>(
+pub fn print_outdated<R: AllocGlobal, F: StillFolder, G: HandedFiles, O: Write>(
     call: &mut Call<'_, R, O>,
+    folder: &F,
+    handed: &G,
     lacks: &mut Lacks,
     index: &str,
     format: Format,
-) -> Result<(), Stop>
-where
-    R::File: LockFile,
-{
+) -> Result<(), Stop> {
     let alloc = call.rt.alloc();
-    let (session, snapshot) = session_over(call.rt, call.dir, index)?;
+    let (session, snapshot) = session_over(folder, handed, index)?;
     lacks.add_newer(alloc, session.state(), &snapshot, None)?;
     let text = match format {
         Format::Lines => outdated_text(alloc, session.state(), &snapshot, call.style)?,

@@ -4,8 +4,9 @@ use crate::held_texts::{Printed, locks_of, say_changed};
 use calls::Call;
 use command_line::request::{Format, Shown};
 use edits::{Name, Refusal, Target};
+use files::StillFolder;
 use files::held::{Held, held_history, held_over};
-use inputs::{Fault, LockFile};
+use inputs::{Fault, HandedFiles};
 use lists::Text;
 use pep508::Cause;
 use phrases::Style;
@@ -13,7 +14,6 @@ use reports::show;
 use snapshot::Snapshot;
 use std::alloc::{AllocError, Global};
 use std::io::Write;
-use std::rt::Files;
 use stops::Stop;
 use texts::entry_text::entry_text;
 use texts::lock_json::lock_json;
@@ -22,16 +22,15 @@ use texts::shown::ShownLocks;
 use texts::tree_text::{tree_json, tree_text};
 
 /// Prints the lock of each target, or a part of it.
-pub fn print_shown<R: Files + AllocGlobal, O: Write, E: Write>(
+pub fn print_shown<R: AllocGlobal, F: StillFolder, G: HandedFiles, O: Write, E: Write>(
     call: &mut Call<'_, R, O>,
+    folder: &F,
+    handed: &G,
     errors: &mut E,
     shown: Shown<'_>,
     format: Format,
-) -> Result<(), Stop>
-where
-    R::File: LockFile,
-{
-    let (held, snapshot) = read_for(call.rt, call.dir, shown)?;
+) -> Result<(), Stop> {
+    let (held, snapshot) = read_for(folder, handed, shown)?;
     let (alloc, locks) = (call.rt.alloc(), locks_of(&held));
     say_changed(alloc, call.dir, &held, Printed::LocksWithLines, errors)?;
     let text = match shown {
@@ -44,18 +43,15 @@ where
 }
 
 /// The history, and the index where one is given.
-fn read_for<R: Files + AllocGlobal>(
-    rt: &R,
-    dir: &str,
+fn read_for<F: StillFolder, G: HandedFiles>(
+    folder: &F,
+    handed: &G,
     shown: Shown<'_>,
-) -> Result<(Held, Option<Snapshot>), Fault>
-where
-    R::File: LockFile,
-{
+) -> Result<(Held, Option<Snapshot>), Fault> {
     match shown {
-        Shown::Table | Shown::Tree | Shown::Entry(_, None) => Ok((held_history(rt, dir)?, None)),
+        Shown::Table | Shown::Tree | Shown::Entry(_, None) => Ok((held_history(folder)?, None)),
         Shown::Entry(_, Some(index)) => {
-            let (held, snapshot) = held_over(rt, dir, index)?;
+            let (held, snapshot) = held_over(folder, handed, index)?;
             Ok((held, Some(snapshot)))
         }
     }

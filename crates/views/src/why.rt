@@ -1,8 +1,13 @@
 // What `why` prints: why lines have no solution over an index.
 
-ghost use Rattle.std.specs.Prelude.{IfOk};
+ghost use Rattle.std.specs.Io.KnownBytes.{Appends};
+ghost use Rattle.std.specs.Prelude.{◌≡◌, IfErr, IfOk, IsSomeAnd, OnOk, codes};
 ghost use Rattle.std.specs.List.{All};
 ghost use Rattle.answers.specs.Answers.{IsSolvable};
+ghost use Rattle.edits.specs.Edits.{problems_after};
+ghost use Rattle.journal.specs.Past.{present};
+ghost use Rattle.states.specs.Locks.{HasUnsolved};
+ghost use Rattle.views.specs.Why.{IsFirstAsked, IsWhyNot, edit_asked};
 
 use crate::waiting::Telling;
 use answers::{
@@ -12,15 +17,14 @@ use calls::{Call, UnsavedEdit, pool_of};
 use command_line::request::{EditOptions, Told};
 use edits::{Edit, Problem, TargetName, problem_after, problems_of_init};
 use explain::{ChangedLines, Extent, Wording};
-use files::Disk;
+use files::HistoryFolder;
 use files::first_inputs::{FirstInputs, FirstPaths, first_inputs};
-use inputs::LockFile;
+use inputs::HandedFiles;
 use lists::Text;
 use notes::Lacks;
 use reports::print;
-use std::alloc::Global;
-use std::io::{Read, Write};
-use std::rt::Files;
+use std::alloc::{AllocError, Global};
+use std::io::Write;
 use stops::Stop;
 
 /// Prints why an edit of the saved state has no solution over an index: a refutation that `check`
@@ -32,7 +36,16 @@ pub(crate) fn print_why<R: AllocGlobal, O: Write, W: Watch + Drop>(
     unsaved: UnsavedEdit,
     options: EditOptions<'_>,
     telling: Telling<W>,
-) -> Result<(), Stop> {
+) -> Result<(), Stop>
+    ensures solvable { IfOk result (λ _. IsSomeAnd (present unsaved.session.past) (λ state.
+        All IsSolvable (problems_after state unsaved.edit (record {
+          index = unsaved.snapshot;
+          only_kept = options.entry.keeps_locked;
+        })))) }
+    ensures refuted { IfErr result (λ stop. IsWhyNot stop → IsSomeAnd
+        (present unsaved.session.past) (λ state. HasUnsolved (problems_after state unsaved.edit
+        (record { index = unsaved.snapshot; only_kept = options.entry.keeps_locked })))) }
+{
     let alloc = call.rt.alloc();
     let UnsavedEdit {
         session,
@@ -51,29 +64,36 @@ pub(crate) fn print_why<R: AllocGlobal, O: Write, W: Watch + Drop>(
 
 /// The same of the lock that `init` would make of the requirements file, with this line behind the others
 /// where there is one. No history and no lock is read.
-pub(crate) fn print_why_init<R: Files + AllocGlobal, I: Read + Drop, O: Write, W: Watch + Drop>(
+pub(crate) fn print_why_init<
+    R: AllocGlobal,
+    F: HistoryFolder,
+    G: HandedFiles,
+    O: Write,
+    W: Watch + Drop,
+>(
     call: &mut Call<'_, R, O>,
+    folder: &F,
+    handed: &G,
     lacks: &mut Lacks,
     line: Option<&str>,
     paths: FirstPaths<'_>,
     telling: Telling<W>,
-    input: I,
 ) -> Result<(), Stop>
-where
-    R::File: LockFile,
+    ensures solvable { IfOk result (λ _. IsFirstAsked (F.held folder.now)
+        (G.handed handed.now) paths.entry.index.now paths.entry.targets.items
+        paths.entry.pins.items (edit_asked line.entry) (All IsSolvable)) }
+    ensures refuted { IfErr result (λ stop. IsWhyNot stop → IsFirstAsked (F.held folder.now)
+        (G.handed handed.now) paths.entry.index.now paths.entry.targets.items
+        paths.entry.pins.items (edit_asked line.entry) HasUnsolved) }
 {
     let alloc = call.rt.alloc();
-    let disk = Disk::new(call.rt, call.dir);
     let FirstInputs {
         files: _,
         lines,
         first,
         snapshot,
-    } = first_inputs(call.rt, &disk, paths, input)?;
-    let edit = match line {
-        Some(text) => Edit::Add(Text::copy_of(alloc, text)?),
-        None => Edit::Relock,
-    };
+    } = first_inputs(folder, handed, paths)?;
+    let edit = edit_of(alloc, line)?;
     let problems = problems_of_init(alloc, &lines, &edit, first, &snapshot)?;
     let changed = ChangedLines {
         lines: lines.lines(),
@@ -81,6 +101,16 @@ where
     };
     let asked = Asked { changed, telling };
     answer(alloc, lacks, asked, problems.as_slice(), &mut call.output)
+}
+
+/// With this line behind the others, where there is one.
+fn edit_of(alloc: Global, line: Option<&str>) -> Result<Edit, AllocError>
+    ensures { IfOk result (λ edit. edit ≡ edit_asked line.entry) }
+{
+    Ok(match line {
+        Some(text) => Edit::Add(Text::copy_of(alloc, text)?),
+        None => Edit::Relock,
+    })
 }
 
 /// Which lines are asked about, and how it is told.
@@ -99,7 +129,10 @@ pub fn answer<O: Write, W: Watch + Drop>(
     problems: &[(TargetName, Problem<'_>)],
     output: &mut O,
 ) -> Result<(), Stop>
-    ensures { IfOk result (λ _. All IsSolvable problems.now) }
+    ensures solvable { IfOk result (λ _. All IsSolvable problems.now) }
+    ensures printed { OnOk result
+        (Appends (O.contents output.old) (O.contents output.new) (codes "solvable\n")) }
+    ensures refuted { IfErr result (λ stop. IsWhyNot stop → HasUnsolved problems.now) }
 {
     stop_unsolvable(alloc, lacks, asked, problems)?;
     Ok(print(output, b"solvable\n".as_slice())?)
@@ -112,7 +145,8 @@ fn stop_unsolvable<W: Watch + Drop>(
     asked: Asked<'_, W>,
     problems: &[(TargetName, Problem<'_>)],
 ) -> Result<(), Stop>
-    ensures { IfOk result (λ _. All IsSolvable problems.now) }
+    ensures solvable { IfOk result (λ _. All IsSolvable problems.now) }
+    ensures refuted { IfErr result (λ stop. IsWhyNot stop → HasUnsolved problems.now) }
 {
     let Asked { changed, telling } = asked;
     let Telling {
@@ -134,7 +168,8 @@ fn stop_refuted<W: Watch>(
     problems: &[(TargetName, Problem<'_>)],
     watch: &mut W,
 ) -> Result<(), Stop>
-    ensures { IfOk result (λ _. All IsSolvable problems.now) }
+    ensures solvable { IfOk result (λ _. All IsSolvable problems.now) }
+    ensures refuted { IfErr result (λ stop. IsWhyNot stop → HasUnsolved problems.now) }
 {
     match first_refuted(alloc, problems, watch)? {
         Some((position, refutation)) => {
@@ -154,7 +189,8 @@ fn stop_explained<W: Watch>(
     problems: &[(TargetName, Problem<'_>)],
     watch: &mut W,
 ) -> Result<(), Stop>
-    ensures { IfOk result (λ _. All IsSolvable problems.now) }
+    ensures solvable { IfOk result (λ _. All IsSolvable problems.now) }
+    ensures refuted { IfErr result (λ stop. IsWhyNot stop → HasUnsolved problems.now) }
 {
     match first_explained(alloc, problems, watch)? {
         Some((position, explanation)) => {

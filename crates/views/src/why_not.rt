@@ -16,8 +16,9 @@ use edits::{
 use explain::{
     ChangedLine, ChangedLines, WantedRelease, add_difference, add_same, uncounted_release,
 };
+use files::StillFolder;
 use files::saved_history::session_over;
-use inputs::LockFile;
+use inputs::HandedFiles;
 use lists::Text;
 use notes::Lacks;
 use pep440::Version;
@@ -27,7 +28,6 @@ use resolve::Answer;
 use snapshot::{Release, Snapshot};
 use std::alloc::{AllocError, Global};
 use std::io::Write;
-use std::rt::Files;
 use stops::Stop;
 
 /// What a question is about: a release, or a name that the index has no release of.
@@ -43,18 +43,23 @@ pub struct NamedRelease {
 /// Prints why the present lock hasn't the release that the text names, as `NAME==VERSION`, or the newest
 /// final one of the index, as `NAME`: of the first target whose lock has the name and not the release. It is always told in
 /// sentences, in long ones where these are asked for.
-pub(crate) fn print_why_not<R: Files + AllocGlobal, O: Write, W: Watch + Drop>(
+pub(crate) fn print_why_not<
+    R: AllocGlobal,
+    F: StillFolder,
+    G: HandedFiles,
+    O: Write,
+    W: Watch + Drop,
+>(
     call: &mut Call<'_, R, O>,
+    folder: &F,
+    handed: &G,
     lacks: &mut Lacks,
     text: &str,
     index: &str,
     telling: Telling<W>,
-) -> Result<(), Stop>
-where
-    R::File: LockFile,
-{
+) -> Result<(), Stop> {
     let alloc = call.rt.alloc();
-    let (session, snapshot) = session_over(call.rt, call.dir, index)?;
+    let (session, snapshot) = session_over(folder, handed, index)?;
     let named = release_in(alloc, text, &snapshot)?;
     let answer = why_not(alloc, lacks, session.state(), &named, &snapshot, telling)?;
     show(&mut call.output, answer.as_str().as_bytes())?;

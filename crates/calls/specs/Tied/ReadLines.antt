@@ -9,19 +9,21 @@ use Rattle.command_line.specs.declared.invocation.NewLines.TheVariants.{File, Wa
 use Rattle.edits.specs.ExchangedLine.{with_line_on}
 use Rattle.files.specs.Beside.{StandFor}
 use Rattle.files.specs.declared.saved_files.SavedFiles.{SavedFiles}
+use Rattle.inputs.specs.Handed.{Handed, IsAt}
 use Rattle.inputs.specs.Inputs.{requirements_in}
+use Rattle.inputs.specs.declared.input_files.InputFile.TheVariants.{NewRequirements, OldRequirements}
 use Rattle.journal.specs.Changes.{HistoryParts}
 use Rattle.journal.specs.Opens.{Opens}
 use Rattle.journal.specs.Past.{present}
 use Rattle.journal.specs.Values.{ReqFile}
 use Rattle.markers.specs.Names.{normal_of}
 
--- what was read is of the kind that is asked for
-abbrev pub AreReadFor : NewLines → LinesRead → Type 0
-AreReadFor (File path) (read.New bytes) = ⊤
-AreReadFor (Was path) (read.Old bytes) = ⊤
-AreReadFor (Line name text) (read.Line own other) = (own.now ≡ name.now) × (other.now ≡ text.now)
-AreReadFor asked lines = ⊥
+-- what was read is of the kind that is asked for, and stands where it is asked for
+abbrev pub AreReadFor : Handed → NewLines → LinesRead → Type 0
+AreReadFor handed (File path) (read.New bytes) = IsAt handed NewRequirements path.now bytes.items
+AreReadFor handed (Was path) (read.Old bytes) = IsAt handed OldRequirements path.now bytes.items
+AreReadFor handed (Line name text) (read.Line own other) = (own.now ≡ name.now) × (other.now ≡ text.now)
+AreReadFor handed asked lines = ⊥
 
 -- the lines that are made of it
 abbrev pub AreMadeOf : LinesRead → SavedFiles → HistoryParts → ReqFile → Type 0

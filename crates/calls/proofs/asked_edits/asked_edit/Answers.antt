@@ -1,18 +1,12 @@
-use Rattle.std.proofs.Common.{refl}
 use Rattle.calls.proofs.asked_edits.asked_edit.Goals as goal
 
-pub returns-in_ok-session-in-Typed : goal.returns-in_ok-session-in-Typed
-returns-in_ok-session-in-Typed g c = rw c.in-Typed.is (c.in_ok-session-in-Typed.ensures.0, c.in_ok-session-in-Typed.ensures.1, refl)
+pub returns-clause-edit : goal.returns-clause-edit
+returns-clause-edit g c = rw (c.unsaved.ensures.session, c.unsaved.ensures.edit) (record {
+  files = c.in_ok-read.read.history.files;
+  places = c.in_ok-read.ensures.places;
+  stand = c.in_ok-read.ensures.history;
+  made = c.in_ok-read.ensures.edit;
+})
 
-pub returns-in_ok-read-in-Replace : goal.returns-in_ok-read-in-Replace
-returns-in_ok-read-in-Replace g c =
-    rw (c.in-Replace.is, c.unsaved.ensures.session, c.unsaved.ensures.edit)
-    (c.in_ok-read-in-Replace.read.history.files, c.in_ok-read-in-Replace.ensures.history, c.in_ok-read-in-Replace.ensures.edit)
-
-pub returns-in_ok-read-in-Retarget : goal.returns-in_ok-read-in-Retarget
-returns-in_ok-read-in-Retarget g c =
-    rw (c.in-Retarget.is, c.unsaved-in-Retarget.ensures.session, c.unsaved-in-Retarget.ensures.edit) (
-      c.in_ok-read-in-Retarget.read.history.files,
-      c.in_ok-read-in-Retarget.ensures.history,
-      rw (c.in_ok-paths-in-Retarget.ensures.targets, c.in_ok-paths-in-Retarget.ensures.pins) at c.in_ok-read-in-Retarget.ensures.edit,
-    )
+pub returns-clause-index : goal.returns-clause-index
+returns-clause-index g c = rw c.unsaved.ensures.index c.in_ok-read.ensures.index

@@ -17,19 +17,19 @@ pub returns-in_err-files-2-clause-repaired : goal.returns-in_err-files-2-clause-
 returns-in_err-files-2-clause-repaired g c =
     repaired_twice g.F.Folder.held g.F.Folder.may_leave g.F.Folder.moment g.F.Folder.left_since g.F.Folder.faults ((g.F.HistoryFolder.may_fail c.args.folder.now) ⊎ IsHandChanged c.args.replacement.now.lines) c.args.folder.now c.read_to_save.new.folder c.opened_to_save.new.folder
     (repaired_where g.F.Folder.held g.F.Folder.may_leave g.F.Folder.moment g.F.Folder.left_since g.F.Folder.faults (g.F.HistoryFolder.may_fail c.args.folder.now) ((g.F.HistoryFolder.may_fail c.args.folder.now) ⊎ IsHandChanged c.args.replacement.now.lines) (λ no may. no (inl may)) c.args.folder.now c.read_to_save.new.folder c.read_to_save.ensures.repaired)
-    (repaired_where g.F.Folder.held g.F.Folder.may_leave g.F.Folder.moment g.F.Folder.left_since g.F.Folder.faults _ ((g.F.HistoryFolder.may_fail c.args.folder.now) ⊎ IsHandChanged c.args.replacement.now.lines) (λ no old. no (inr (ReadLines.hand_changed _ _ c.in_ok-read.ensures.lines old))) c.read_to_save.new.folder c.opened_to_save.new.folder c.opened_to_save.ensures.repaired)
+    (repaired_where g.F.Folder.held g.F.Folder.may_leave g.F.Folder.moment g.F.Folder.left_since g.F.Folder.faults _ ((g.F.HistoryFolder.may_fail c.args.folder.now) ⊎ IsHandChanged c.args.replacement.now.lines) (λ no old. no (inr (ReadLines.hand_changed (g.G.HandedFiles.handed c.args.handed.now) _ _ c.in_ok-read.ensures.lines old))) c.read_to_save.new.folder c.opened_to_save.new.folder c.opened_to_save.ensures.repaired)
 
 pub returns-in_err-made_of-clause-repaired : goal.returns-in_err-made_of-clause-repaired
 returns-in_err-made_of-clause-repaired g c =
     repaired_twice g.F.Folder.held g.F.Folder.may_leave g.F.Folder.moment g.F.Folder.left_since g.F.Folder.faults ((g.F.HistoryFolder.may_fail c.args.folder.now) ⊎ IsHandChanged c.args.replacement.now.lines) c.args.folder.now c.read_to_save.new.folder c.opened_to_save.new.folder
     (repaired_where g.F.Folder.held g.F.Folder.may_leave g.F.Folder.moment g.F.Folder.left_since g.F.Folder.faults (g.F.HistoryFolder.may_fail c.args.folder.now) ((g.F.HistoryFolder.may_fail c.args.folder.now) ⊎ IsHandChanged c.args.replacement.now.lines) (λ no may. no (inl may)) c.args.folder.now c.read_to_save.new.folder c.read_to_save.ensures.repaired)
-    (repaired_where g.F.Folder.held g.F.Folder.may_leave g.F.Folder.moment g.F.Folder.left_since g.F.Folder.faults _ ((g.F.HistoryFolder.may_fail c.args.folder.now) ⊎ IsHandChanged c.args.replacement.now.lines) (λ no old. no (inr (ReadLines.hand_changed _ _ c.in_ok-read.ensures.lines old))) c.read_to_save.new.folder c.opened_to_save.new.folder c.opened_to_save.ensures.repaired)
+    (repaired_where g.F.Folder.held g.F.Folder.may_leave g.F.Folder.moment g.F.Folder.left_since g.F.Folder.faults _ ((g.F.HistoryFolder.may_fail c.args.folder.now) ⊎ IsHandChanged c.args.replacement.now.lines) (λ no old. no (inr (ReadLines.hand_changed (g.G.HandedFiles.handed c.args.handed.now) _ _ c.in_ok-read.ensures.lines old))) c.read_to_save.new.folder c.opened_to_save.new.folder c.opened_to_save.ensures.repaired)
 
 pub returns-clause-repaired : goal.returns-clause-repaired
 returns-clause-repaired g c =
     repaired_twice g.F.Folder.held g.F.Folder.may_leave g.F.Folder.moment g.F.Folder.left_since g.F.Folder.faults ((g.F.HistoryFolder.may_fail c.args.folder.now) ⊎ IsHandChanged c.args.replacement.now.lines) c.args.folder.now c.read_to_save.new.folder c.opened_to_save.new.folder
     (repaired_where g.F.Folder.held g.F.Folder.may_leave g.F.Folder.moment g.F.Folder.left_since g.F.Folder.faults (g.F.HistoryFolder.may_fail c.args.folder.now) ((g.F.HistoryFolder.may_fail c.args.folder.now) ⊎ IsHandChanged c.args.replacement.now.lines) (λ no may. no (inl may)) c.args.folder.now c.read_to_save.new.folder c.read_to_save.ensures.repaired)
-    (repaired_where g.F.Folder.held g.F.Folder.may_leave g.F.Folder.moment g.F.Folder.left_since g.F.Folder.faults _ ((g.F.HistoryFolder.may_fail c.args.folder.now) ⊎ IsHandChanged c.args.replacement.now.lines) (λ no old. no (inr (ReadLines.hand_changed _ _ c.in_ok-read.ensures.lines old))) c.read_to_save.new.folder c.opened_to_save.new.folder c.opened_to_save.ensures.repaired)
+    (repaired_where g.F.Folder.held g.F.Folder.may_leave g.F.Folder.moment g.F.Folder.left_since g.F.Folder.faults _ ((g.F.HistoryFolder.may_fail c.args.folder.now) ⊎ IsHandChanged c.args.replacement.now.lines) (λ no old. no (inr (ReadLines.hand_changed (g.G.HandedFiles.handed c.args.handed.now) _ _ c.in_ok-read.ensures.lines old))) c.read_to_save.new.folder c.opened_to_save.new.folder c.opened_to_save.ensures.repaired)
 
 pub returns-clause-places : goal.returns-clause-places
 returns-clause-places g c =
@@ -37,8 +37,11 @@ returns-clause-places g c =
 
 pub returns-clause-history : goal.returns-clause-history
 returns-clause-history g c =
-    rw (c.in_ok-made_of.ensures.files, c.in_ok-made_of.ensures.session) (ReadLines.replaced _ _ _ _ c.in_ok-read.ensures.lines c.in_ok-files-2.ensures.opened)
+    rw (c.in_ok-made_of.ensures.files, c.in_ok-made_of.ensures.session) (ReadLines.replaced (g.G.HandedFiles.handed c.args.handed.now) _ _ _ _ c.in_ok-read.ensures.lines c.in_ok-files-2.ensures.opened)
 
 pub returns-clause-edit : goal.returns-clause-edit
 returns-clause-edit g c =
-    rw (c.in_ok-made_of.ensures.files, c.in_ok-made_of.ensures.session) (ReadLines.replacement _ _ _ _ _ _ _ c.in_ok-read.ensures.lines c.in_ok-read.ensures.pins c.in_ok-made_of.ensures.edit)
+    rw (c.in_ok-made_of.ensures.files, c.in_ok-made_of.ensures.session) (ReadLines.replacement (g.G.HandedFiles.handed c.args.handed.now) _ _ _ _ _ _ _ c.in_ok-read.ensures.lines c.in_ok-read.ensures.pins c.in_ok-made_of.ensures.edit)
+
+pub returns-clause-index : goal.returns-clause-index
+returns-clause-index g c = (c.in_ok-read.read.index.items, c.in_ok-read.ensures.index, c.in_ok-made_of.ensures.index)

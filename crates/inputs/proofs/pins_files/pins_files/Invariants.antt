@@ -1,7 +1,8 @@
-use Rattle.std.proofs.Common.{◌≡◌, ◌++◌, map}
-use Rattle.inputs.specs.TargetFiles.{names_read}
+use Rattle.std.proofs.Common.{◌≡◌}
+use Rattle.inputs.specs.PinsFiles.{pins_files_in}
+use Rattle.inputs.proofs.TargetFacts.{behind}
 use Rattle.inputs.proofs.pins_files.pins_files.Given as goal
 
--- the targets so far, and those that are left
-abbrev pub invariant-loop-name : goal.invariant-loop-name
-invariant-loop-name l = map (λ f. f.target) l.files.items ++ names_read l.name-iterator.rest.items ≡ names_read l.fn.read.items
+-- what is read of the others goes behind the files so far
+abbrev pub invariant-loop-named : goal.invariant-loop-named
+invariant-loop-named l = behind l.files.items (pins_files_in l.named-iterator.rest.items) ≡ pins_files_in l.fn.read.items

@@ -1,7 +1,11 @@
-use Rattle.std.proofs.Common.{◌≡◌, ◌++◌}
-use Rattle.inputs.specs.TargetFiles.{names_of, names_read}
+use Rattle.std.proofs.Common.{◌≡◌, ◌++◌, map}
+use Rattle.std.specs.List.{AllByRecursion}
+use Rattle.inputs.specs.Handed.{IsAt, path_of}
+use Rattle.inputs.specs.declared.input_files.InputFile.TheVariants.{Pins}
 use Rattle.inputs.proofs.pins_files.read_pins.Given as goal
 
--- the names so far, and those that are left
+-- the paths so far and those that are left; and the bytes so far are at their paths
 abbrev pub invariant-loop-name : goal.invariant-loop-name
-invariant-loop-name g l = names_read l.read.items ++ names_of l.name-iterator.rest.items ≡ names_of l.fn.paths.items
+invariant-loop-name g l =
+    (map path_of l.read.items ++ l.name-iterator.rest.items ≡ l.fn.paths.items)
+    × AllByRecursion (λ r. IsAt (g.G.HandedFiles.handed l.handed) (Pins r.name) r.path r.bytes.items) l.read.items

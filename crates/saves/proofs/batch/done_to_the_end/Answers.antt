@@ -1,4 +1,7 @@
 use Rattle.saves.proofs.batch.done_to_the_end.Goals as goal
 
-pub returns : goal.returns
-returns g c = c.in_ok-batch_to_its_end.ensures.done
+pub returns-clause-done : goal.returns-clause-done
+returns-clause-done g c = c.in_ok-batch_to_its_end.ensures.done
+
+pub returns-clause-answered : goal.returns-clause-answered
+returns-clause-answered g c = c.in_ok-batch_to_its_end.ensures.answered

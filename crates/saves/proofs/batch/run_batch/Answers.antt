@@ -1,12 +1,15 @@
 use Rattle.std.proofs.Common.{false, inl, inr, refl, subst, sym, true}
 use Rattle.std.specs.Bool.{⊤}
-use Rattle.commands.specs.Runs.{SomeDoneTo}
+use Rattle.std.specs.Prelude.{IfSome}
+use Rattle.calls.proofs.Pools.{pool-for}
+use Rattle.commands.specs.BatchLine.{commands_of}
+use Rattle.commands.specs.Runs.{AnsweredTo, SomeDoneTo}
 use Rattle.commands.specs.declared.batch_end.BatchEnd.TheVariants.{Leave, Save}
 use Rattle.files.specs.Places.{AreInPlace, AreKnown, bytes_read}
 use Rattle.files.specs.Repair.{IsRepairOf}
 use Rattle.files.proofs.FolderRuns.{all_less}
 use Rattle.files.proofs.StandingFiles.{known}
-use Rattle.saves.specs.Called.{BatchIsDone, IsFaultOfSaving, IsSavedBy, is_save}
+use Rattle.saves.specs.Called.{BatchIsDone, IsFaultOfSaving, is_save}
 use Rattle.saves.proofs.CallRuns.{answers, fault_of_saving, is_answering, not_ok, only_repaired, or_else, told_of, was_being_saved, was_left, was_saved}
 use Rattle.saves.proofs.batch.run_batch.Goals as goal
 
@@ -17,7 +20,7 @@ pub returns-in_err-files-clause-called : goal.returns-in_err-files-clause-called
 returns-in_err-files-clause-called g c = not_ok c.from_residual.result _ _ c.from_residual.ensures.1
 
 pub returns-in_err-files-clause-any_moment : goal.returns-in_err-files-clause-any_moment
-returns-in_err-files-clause-any_moment g c = only_repaired g.F.Folder.held g.F.Folder.may_leave g.F.Folder.moment g.F.Folder.left_since g.F.Folder.faults (g.F.HistoryFolder.may_fail c.args.folder.now) (IsSavedBy is_save (BatchIsDone c.args.is_all_or_none c.args.options.keeps_locked)) c.args.folder.now c.history_to_save.new.folder c.history_to_save.ensures.repaired
+returns-in_err-files-clause-any_moment g c = only_repaired g.F.Folder.held g.F.Folder.may_leave g.F.Folder.moment g.F.Folder.left_since g.F.Folder.faults (g.F.HistoryFolder.may_fail c.args.folder.now) _ c.args.folder.now c.history_to_save.new.folder c.history_to_save.ensures.repaired
 
 pub returns-in_err-files-clause-nothing_saved : goal.returns-in_err-files-clause-nothing_saved
 returns-in_err-files-clause-nothing_saved g c = or_else c.from_residual.result IsFaultOfSaving _ c.history_to_save.ensures.repaired
@@ -26,7 +29,7 @@ pub returns-in_err-before-clause-called : goal.returns-in_err-before-clause-call
 returns-in_err-before-clause-called g c = not_ok c.from_residual-in_err-before.result _ _ c.from_residual-in_err-before.ensures.1
 
 pub returns-in_err-before-clause-any_moment : goal.returns-in_err-before-clause-any_moment
-returns-in_err-before-clause-any_moment g c = only_repaired g.F.Folder.held g.F.Folder.may_leave g.F.Folder.moment g.F.Folder.left_since g.F.Folder.faults (g.F.HistoryFolder.may_fail c.args.folder.now) (IsSavedBy is_save (BatchIsDone c.args.is_all_or_none c.args.options.keeps_locked)) c.args.folder.now c.history_to_save.new.folder c.history_to_save.ensures.repaired
+returns-in_err-before-clause-any_moment g c = only_repaired g.F.Folder.held g.F.Folder.may_leave g.F.Folder.moment g.F.Folder.left_since g.F.Folder.faults (g.F.HistoryFolder.may_fail c.args.folder.now) _ c.args.folder.now c.history_to_save.new.folder c.history_to_save.ensures.repaired
 
 pub returns-in_err-before-clause-nothing_saved : goal.returns-in_err-before-clause-nothing_saved
 returns-in_err-before-clause-nothing_saved g c = or_else c.from_residual-in_err-before.result IsFaultOfSaving _ c.history_to_save.ensures.repaired
@@ -35,7 +38,7 @@ pub returns-in_err-end-clause-called : goal.returns-in_err-end-clause-called
 returns-in_err-end-clause-called g c = not_ok c.from_residual-in_err-end.result _ _ c.from_residual-in_err-end.ensures.1
 
 pub returns-in_err-end-clause-any_moment : goal.returns-in_err-end-clause-any_moment
-returns-in_err-end-clause-any_moment g c = only_repaired g.F.Folder.held g.F.Folder.may_leave g.F.Folder.moment g.F.Folder.left_since g.F.Folder.faults (g.F.HistoryFolder.may_fail c.args.folder.now) (IsSavedBy is_save (BatchIsDone c.args.is_all_or_none c.args.options.keeps_locked)) c.args.folder.now c.history_to_save.new.folder c.history_to_save.ensures.repaired
+returns-in_err-end-clause-any_moment g c = only_repaired g.F.Folder.held g.F.Folder.may_leave g.F.Folder.moment g.F.Folder.left_since g.F.Folder.faults (g.F.HistoryFolder.may_fail c.args.folder.now) _ c.args.folder.now c.history_to_save.new.folder c.history_to_save.ensures.repaired
 
 pub returns-in_err-end-clause-nothing_saved : goal.returns-in_err-end-clause-nothing_saved
 returns-in_err-end-clause-nothing_saved g c = or_else c.from_residual-in_err-end.result IsFaultOfSaving _ c.history_to_save.ensures.repaired
@@ -44,7 +47,7 @@ pub returns-in_err-refuse_standing-in-Save-clause-called : goal.returns-in_err-r
 returns-in_err-refuse_standing-in-Save-clause-called g c = not_ok c.from_residual-in_err-refuse_standing-in-Save.result _ _ c.from_residual-in_err-refuse_standing-in-Save.ensures.1
 
 pub returns-in_err-refuse_standing-in-Save-clause-any_moment : goal.returns-in_err-refuse_standing-in-Save-clause-any_moment
-returns-in_err-refuse_standing-in-Save-clause-any_moment g c = only_repaired g.F.Folder.held g.F.Folder.may_leave g.F.Folder.moment g.F.Folder.left_since g.F.Folder.faults (g.F.HistoryFolder.may_fail c.args.folder.now) (IsSavedBy is_save (BatchIsDone c.args.is_all_or_none c.args.options.keeps_locked)) c.args.folder.now c.history_to_save.new.folder c.history_to_save.ensures.repaired
+returns-in_err-refuse_standing-in-Save-clause-any_moment g c = only_repaired g.F.Folder.held g.F.Folder.may_leave g.F.Folder.moment g.F.Folder.left_since g.F.Folder.faults (g.F.HistoryFolder.may_fail c.args.folder.now) _ c.args.folder.now c.history_to_save.new.folder c.history_to_save.ensures.repaired
 
 pub returns-in_err-refuse_standing-in-Save-clause-nothing_saved : goal.returns-in_err-refuse_standing-in-Save-clause-nothing_saved
 returns-in_err-refuse_standing-in-Save-clause-nothing_saved g c = or_else c.from_residual-in_err-refuse_standing-in-Save.result IsFaultOfSaving _ c.history_to_save.ensures.repaired
@@ -53,7 +56,7 @@ pub returns-in_err-add_refused_line-in-Refuse-clause-called : goal.returns-in_er
 returns-in_err-add_refused_line-in-Refuse-clause-called g c = not_ok c.from_residual-in_err-add_refused_line-in-Refuse.result _ _ c.from_residual-in_err-add_refused_line-in-Refuse.ensures.1
 
 pub returns-in_err-add_refused_line-in-Refuse-clause-any_moment : goal.returns-in_err-add_refused_line-in-Refuse-clause-any_moment
-returns-in_err-add_refused_line-in-Refuse-clause-any_moment g c = only_repaired g.F.Folder.held g.F.Folder.may_leave g.F.Folder.moment g.F.Folder.left_since g.F.Folder.faults (g.F.HistoryFolder.may_fail c.args.folder.now) (IsSavedBy is_save (BatchIsDone c.args.is_all_or_none c.args.options.keeps_locked)) c.args.folder.now c.history_to_save.new.folder c.history_to_save.ensures.repaired
+returns-in_err-add_refused_line-in-Refuse-clause-any_moment g c = only_repaired g.F.Folder.held g.F.Folder.may_leave g.F.Folder.moment g.F.Folder.left_since g.F.Folder.faults (g.F.HistoryFolder.may_fail c.args.folder.now) _ c.args.folder.now c.history_to_save.new.folder c.history_to_save.ensures.repaired
 
 pub returns-in_err-add_refused_line-in-Refuse-clause-nothing_saved : goal.returns-in_err-add_refused_line-in-Refuse-clause-nothing_saved
 returns-in_err-add_refused_line-in-Refuse-clause-nothing_saved g c = or_else c.from_residual-in_err-add_refused_line-in-Refuse.result IsFaultOfSaving _ c.history_to_save.ensures.repaired
@@ -68,8 +71,9 @@ returns-in_err-rewrite-in-Save-clause-called g c = not_ok c.from_residual-in_err
 
 pub returns-in_err-rewrite-in-Save-clause-any_moment : goal.returns-in_err-rewrite-in-Save-clause-any_moment
 returns-in_err-rewrite-in-Save-clause-any_moment g c =
-    is_answering g.F.Folder.held g.F.Folder.may_leave g.F.Folder.moment g.F.Folder.left_since g.F.Folder.faults (IsRepairOf (g.F.HistoryFolder.may_fail c.args.folder.now)) AreInPlace is_save (BatchIsDone c.args.is_all_or_none c.args.options.keeps_locked) c.in_ok-files.field-0.files c.done_to_the_end.new.session Save
-    (c.in_ok-files.field-0.session, c.in_ok-files.ensures.stand, (c.pool_of-pool.result, c.pool_of-pool.ensures.kept, subst (λ e. SomeDoneTo c.args.is_all_or_none e c.pool_of-pool.result c.in_ok-files.field-0.session c.done_to_the_end.new.session) c.in-Save.is c.in_ok-end.ensures))
+    is_answering g.F.Folder.held g.F.Folder.may_leave g.F.Folder.moment g.F.Folder.left_since g.F.Folder.faults (IsRepairOf (g.F.HistoryFolder.may_fail c.args.folder.now)) AreInPlace is_save (BatchIsDone (g.G.HandedFiles.handed c.args.handed.now) c.args.options.index.now c.args.is_all_or_none c.args.options.keeps_locked (g.I.Read.remaining c.args.input) (g.O.Write.contents c.args.call.now.output) (g.O.Write.contents c.done_to_the_end.new.output)) c.in_ok-files.field-0.files c.done_to_the_end.new.session Save
+    (c.in_ok-files.field-0.session, c.in_ok-files.ensures.stand, (c.pool_of-pool.result, pool-for (g.G.HandedFiles.handed c.args.handed.now) c.args.options.index.now c.args.options.keeps_locked c.in_ok-files.field-0.snapshot c.pool_of-pool.result c.in_ok-files.ensures.index c.pool_of-pool.ensures.index c.pool_of-pool.ensures.kept, subst (λ e. SomeDoneTo c.args.is_all_or_none e c.pool_of-pool.result c.in_ok-files.field-0.session c.done_to_the_end.new.session) c.in-Save.is c.in_ok-end.ensures.done,
+    subst (λ e. IfSome (g.I.Read.remaining c.args.input) (λ bytes. AnsweredTo c.args.is_all_or_none e c.pool_of-pool.result (commands_of bytes) c.in_ok-files.field-0.session c.done_to_the_end.new.session (g.O.Write.contents c.args.call.now.output) (g.O.Write.contents c.done_to_the_end.new.output))) c.in-Save.is c.in_ok-end.ensures.answered))
     c.args.folder.now c.history_to_save.new.folder c.rewrite.new.folder c.history_to_save.ensures.repaired c.in_ok-files.ensures.places
     (was_being_saved g.F.Folder.held g.F.Folder.may_leave g.F.Folder.moment g.F.Folder.left_since g.F.Folder.faults true c.in_ok-files.field-0.files c.done_to_the_end.new.session refl c.history_to_save.new.folder c.rewrite.new.folder c.rewrite.ensures.any_moment)
 
@@ -80,15 +84,17 @@ returns-in_err-rewrite-in-Save-clause-nothing_saved g c =
 
 pub returns-in-Save-clause-called : goal.returns-in-Save-clause-called
 returns-in-Save-clause-called g c =
-    answers g.F.Folder.held g.F.Folder.may_leave g.F.Folder.moment g.F.Folder.left_since g.F.Folder.faults (IsRepairOf (g.F.HistoryFolder.may_fail c.args.folder.now)) AreInPlace is_save (BatchIsDone c.args.is_all_or_none c.args.options.keeps_locked) c.in_ok-files.field-0.files c.done_to_the_end.new.session Save
-    (c.in_ok-files.field-0.session, c.in_ok-files.ensures.stand, (c.pool_of-pool.result, c.pool_of-pool.ensures.kept, subst (λ e. SomeDoneTo c.args.is_all_or_none e c.pool_of-pool.result c.in_ok-files.field-0.session c.done_to_the_end.new.session) c.in-Save.is c.in_ok-end.ensures))
+    answers g.F.Folder.held g.F.Folder.may_leave g.F.Folder.moment g.F.Folder.left_since g.F.Folder.faults (IsRepairOf (g.F.HistoryFolder.may_fail c.args.folder.now)) AreInPlace is_save (BatchIsDone (g.G.HandedFiles.handed c.args.handed.now) c.args.options.index.now c.args.is_all_or_none c.args.options.keeps_locked (g.I.Read.remaining c.args.input) (g.O.Write.contents c.args.call.now.output) (g.O.Write.contents c.done_to_the_end.new.output)) c.in_ok-files.field-0.files c.done_to_the_end.new.session Save
+    (c.in_ok-files.field-0.session, c.in_ok-files.ensures.stand, (c.pool_of-pool.result, pool-for (g.G.HandedFiles.handed c.args.handed.now) c.args.options.index.now c.args.options.keeps_locked c.in_ok-files.field-0.snapshot c.pool_of-pool.result c.in_ok-files.ensures.index c.pool_of-pool.ensures.index c.pool_of-pool.ensures.kept, subst (λ e. SomeDoneTo c.args.is_all_or_none e c.pool_of-pool.result c.in_ok-files.field-0.session c.done_to_the_end.new.session) c.in-Save.is c.in_ok-end.ensures.done,
+    subst (λ e. IfSome (g.I.Read.remaining c.args.input) (λ bytes. AnsweredTo c.args.is_all_or_none e c.pool_of-pool.result (commands_of bytes) c.in_ok-files.field-0.session c.done_to_the_end.new.session (g.O.Write.contents c.args.call.now.output) (g.O.Write.contents c.done_to_the_end.new.output))) c.in-Save.is c.in_ok-end.ensures.answered))
     (λ end. ⊤) tt c.args.folder.now c.history_to_save.new.folder c.rewrite.new.folder c.history_to_save.ensures.repaired c.in_ok-files.ensures.places
     (was_saved g.F.Folder.held g.F.Folder.may_leave g.F.Folder.moment g.F.Folder.left_since g.F.Folder.faults true c.in_ok-files.field-0.files c.done_to_the_end.new.session refl c.history_to_save.new.folder c.rewrite.new.folder c.in_ok-rewrite-in-Save.ensures.saved)
 
 pub returns-in-Save-clause-any_moment : goal.returns-in-Save-clause-any_moment
 returns-in-Save-clause-any_moment g c =
-    is_answering g.F.Folder.held g.F.Folder.may_leave g.F.Folder.moment g.F.Folder.left_since g.F.Folder.faults (IsRepairOf (g.F.HistoryFolder.may_fail c.args.folder.now)) AreInPlace is_save (BatchIsDone c.args.is_all_or_none c.args.options.keeps_locked) c.in_ok-files.field-0.files c.done_to_the_end.new.session Save
-    (c.in_ok-files.field-0.session, c.in_ok-files.ensures.stand, (c.pool_of-pool.result, c.pool_of-pool.ensures.kept, subst (λ e. SomeDoneTo c.args.is_all_or_none e c.pool_of-pool.result c.in_ok-files.field-0.session c.done_to_the_end.new.session) c.in-Save.is c.in_ok-end.ensures))
+    is_answering g.F.Folder.held g.F.Folder.may_leave g.F.Folder.moment g.F.Folder.left_since g.F.Folder.faults (IsRepairOf (g.F.HistoryFolder.may_fail c.args.folder.now)) AreInPlace is_save (BatchIsDone (g.G.HandedFiles.handed c.args.handed.now) c.args.options.index.now c.args.is_all_or_none c.args.options.keeps_locked (g.I.Read.remaining c.args.input) (g.O.Write.contents c.args.call.now.output) (g.O.Write.contents c.done_to_the_end.new.output)) c.in_ok-files.field-0.files c.done_to_the_end.new.session Save
+    (c.in_ok-files.field-0.session, c.in_ok-files.ensures.stand, (c.pool_of-pool.result, pool-for (g.G.HandedFiles.handed c.args.handed.now) c.args.options.index.now c.args.options.keeps_locked c.in_ok-files.field-0.snapshot c.pool_of-pool.result c.in_ok-files.ensures.index c.pool_of-pool.ensures.index c.pool_of-pool.ensures.kept, subst (λ e. SomeDoneTo c.args.is_all_or_none e c.pool_of-pool.result c.in_ok-files.field-0.session c.done_to_the_end.new.session) c.in-Save.is c.in_ok-end.ensures.done,
+    subst (λ e. IfSome (g.I.Read.remaining c.args.input) (λ bytes. AnsweredTo c.args.is_all_or_none e c.pool_of-pool.result (commands_of bytes) c.in_ok-files.field-0.session c.done_to_the_end.new.session (g.O.Write.contents c.args.call.now.output) (g.O.Write.contents c.done_to_the_end.new.output))) c.in-Save.is c.in_ok-end.ensures.answered))
     c.args.folder.now c.history_to_save.new.folder c.rewrite.new.folder c.history_to_save.ensures.repaired c.in_ok-files.ensures.places
     (was_being_saved g.F.Folder.held g.F.Folder.may_leave g.F.Folder.moment g.F.Folder.left_since g.F.Folder.faults true c.in_ok-files.field-0.files c.done_to_the_end.new.session refl c.history_to_save.new.folder c.rewrite.new.folder c.rewrite.ensures.any_moment)
 
@@ -97,13 +103,14 @@ returns-in-Save-clause-nothing_saved g c = tt
 
 pub returns-in-Leave-clause-called : goal.returns-in-Leave-clause-called
 returns-in-Leave-clause-called g c =
-    answers g.F.Folder.held g.F.Folder.may_leave g.F.Folder.moment g.F.Folder.left_since g.F.Folder.faults (IsRepairOf (g.F.HistoryFolder.may_fail c.args.folder.now)) AreInPlace is_save (BatchIsDone c.args.is_all_or_none c.args.options.keeps_locked) c.in_ok-files.field-0.files c.done_to_the_end.new.session Leave
-    (c.in_ok-files.field-0.session, c.in_ok-files.ensures.stand, (c.pool_of-pool.result, c.pool_of-pool.ensures.kept, subst (λ e. SomeDoneTo c.args.is_all_or_none e c.pool_of-pool.result c.in_ok-files.field-0.session c.done_to_the_end.new.session) c.in-Leave.is c.in_ok-end.ensures))
+    answers g.F.Folder.held g.F.Folder.may_leave g.F.Folder.moment g.F.Folder.left_since g.F.Folder.faults (IsRepairOf (g.F.HistoryFolder.may_fail c.args.folder.now)) AreInPlace is_save (BatchIsDone (g.G.HandedFiles.handed c.args.handed.now) c.args.options.index.now c.args.is_all_or_none c.args.options.keeps_locked (g.I.Read.remaining c.args.input) (g.O.Write.contents c.args.call.now.output) (g.O.Write.contents c.done_to_the_end.new.output)) c.in_ok-files.field-0.files c.done_to_the_end.new.session Leave
+    (c.in_ok-files.field-0.session, c.in_ok-files.ensures.stand, (c.pool_of-pool.result, pool-for (g.G.HandedFiles.handed c.args.handed.now) c.args.options.index.now c.args.options.keeps_locked c.in_ok-files.field-0.snapshot c.pool_of-pool.result c.in_ok-files.ensures.index c.pool_of-pool.ensures.index c.pool_of-pool.ensures.kept, subst (λ e. SomeDoneTo c.args.is_all_or_none e c.pool_of-pool.result c.in_ok-files.field-0.session c.done_to_the_end.new.session) c.in-Leave.is c.in_ok-end.ensures.done,
+    subst (λ e. IfSome (g.I.Read.remaining c.args.input) (λ bytes. AnsweredTo c.args.is_all_or_none e c.pool_of-pool.result (commands_of bytes) c.in_ok-files.field-0.session c.done_to_the_end.new.session (g.O.Write.contents c.args.call.now.output) (g.O.Write.contents c.done_to_the_end.new.output))) c.in-Leave.is c.in_ok-end.ensures.answered))
     (λ end. ⊤) tt c.args.folder.now c.history_to_save.new.folder c.history_to_save.new.folder c.history_to_save.ensures.repaired c.in_ok-files.ensures.places
     (was_left g.F.Folder.held g.F.Folder.may_leave g.F.Folder.moment g.F.Folder.left_since g.F.Folder.faults false c.in_ok-files.field-0.files c.done_to_the_end.new.session refl c.history_to_save.new.folder (λ d left. g.met.F.Folder.only_now c.history_to_save.new.folder d left))
 
 pub returns-in-Leave-clause-any_moment : goal.returns-in-Leave-clause-any_moment
-returns-in-Leave-clause-any_moment g c = only_repaired g.F.Folder.held g.F.Folder.may_leave g.F.Folder.moment g.F.Folder.left_since g.F.Folder.faults (g.F.HistoryFolder.may_fail c.args.folder.now) (IsSavedBy is_save (BatchIsDone c.args.is_all_or_none c.args.options.keeps_locked)) c.args.folder.now c.history_to_save.new.folder c.history_to_save.ensures.repaired
+returns-in-Leave-clause-any_moment g c = only_repaired g.F.Folder.held g.F.Folder.may_leave g.F.Folder.moment g.F.Folder.left_since g.F.Folder.faults (g.F.HistoryFolder.may_fail c.args.folder.now) _ c.args.folder.now c.history_to_save.new.folder c.history_to_save.ensures.repaired
 
 pub returns-in-Leave-clause-nothing_saved : goal.returns-in-Leave-clause-nothing_saved
 returns-in-Leave-clause-nothing_saved g c = tt
@@ -112,7 +119,7 @@ pub returns-clause-called : goal.returns-clause-called
 returns-clause-called g c = tt
 
 pub returns-clause-any_moment : goal.returns-clause-any_moment
-returns-clause-any_moment g c = only_repaired g.F.Folder.held g.F.Folder.may_leave g.F.Folder.moment g.F.Folder.left_since g.F.Folder.faults (g.F.HistoryFolder.may_fail c.args.folder.now) (IsSavedBy is_save (BatchIsDone c.args.is_all_or_none c.args.options.keeps_locked)) c.args.folder.now c.history_to_save.new.folder c.history_to_save.ensures.repaired
+returns-clause-any_moment g c = only_repaired g.F.Folder.held g.F.Folder.may_leave g.F.Folder.moment g.F.Folder.left_since g.F.Folder.faults (g.F.HistoryFolder.may_fail c.args.folder.now) _ c.args.folder.now c.history_to_save.new.folder c.history_to_save.ensures.repaired
 
 pub returns-clause-nothing_saved : goal.returns-clause-nothing_saved
 returns-clause-nothing_saved g c = inr c.history_to_save.ensures.repaired

@@ -7,6 +7,7 @@ returns-clause-begins g c = (
   c.in_ok-files.field-0.first,
   c.in_ok-files.field-0.snapshot,
   c.in_ok-files.ensures.lines,
+  c.in_ok-files.ensures.index,
   c.in_ok-files.ensures.first,
   c.in-Ok.ensures.start,
   c.in-Ok.ensures.changes,

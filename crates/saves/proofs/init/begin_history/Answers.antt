@@ -4,7 +4,6 @@ use Rattle.commands.specs.Replies.{is_accepted, text_of_reply}
 use Rattle.files.specs.Places.{AreKnown, bytes_read}
 use Rattle.files.proofs.FolderRuns.{all_same, all_settled}
 use Rattle.folder.specs.Repairs.{IsMoveOf}
-use Rattle.inputs.specs.TargetFiles.{names_of}
 use Rattle.journal.specs.declared.commands.Reply.TheVariants.{Done}
 use Rattle.saves.specs.Called.{InitIsDone, IsFaultOfSaving, IsSavedBy}
 use Rattle.saves.proofs.CallRuns.{answers, fault_of_print, fault_of_saving, is_answering, not_ok, only_left, or_else, told_of, was_being_saved, was_saved}
@@ -15,7 +14,7 @@ pub returns-in_err-left-clause-called : goal.returns-in_err-left-clause-called
 returns-in_err-left-clause-called g c = not_ok c.from_residual.result _ _ c.from_residual.ensures.1
 
 pub returns-in_err-left-clause-any_moment : goal.returns-in_err-left-clause-any_moment
-returns-in_err-left-clause-any_moment g c = only_left g.F.Folder.held g.F.Folder.may_leave g.F.Folder.moment g.F.Folder.left_since g.F.Folder.faults IsMoveOf AreKnown (IsSavedBy is_accepted (InitIsDone (names_of c.args.paths.targets.items) (names_of c.args.paths.pins.items))) c.args.folder.now c.end_left.new.folder c.end_left.ensures.moved
+returns-in_err-left-clause-any_moment g c = only_left g.F.Folder.held g.F.Folder.may_leave g.F.Folder.moment g.F.Folder.left_since g.F.Folder.faults IsMoveOf AreKnown (IsSavedBy is_accepted (InitIsDone (g.G.HandedFiles.handed c.args.handed.now) c.args.paths.index.now c.args.paths.targets.items c.args.paths.pins.items)) c.args.folder.now c.end_left.new.folder c.end_left.ensures.moved
 
 pub returns-in_err-left-clause-nothing_saved : goal.returns-in_err-left-clause-nothing_saved
 returns-in_err-left-clause-nothing_saved g c = or_else c.from_residual.result IsFaultOfSaving _ c.end_left.ensures.moved
@@ -24,7 +23,7 @@ pub returns-in_err-steps_before-clause-called : goal.returns-in_err-steps_before
 returns-in_err-steps_before-clause-called g c = not_ok c.from_residual-in_err-steps_before.result _ _ c.from_residual-in_err-steps_before.ensures.1
 
 pub returns-in_err-steps_before-clause-any_moment : goal.returns-in_err-steps_before-clause-any_moment
-returns-in_err-steps_before-clause-any_moment g c = only_left g.F.Folder.held g.F.Folder.may_leave g.F.Folder.moment g.F.Folder.left_since g.F.Folder.faults IsMoveOf AreKnown (IsSavedBy is_accepted (InitIsDone (names_of c.args.paths.targets.items) (names_of c.args.paths.pins.items))) c.args.folder.now c.end_left.new.folder c.end_left.ensures.moved
+returns-in_err-steps_before-clause-any_moment g c = only_left g.F.Folder.held g.F.Folder.may_leave g.F.Folder.moment g.F.Folder.left_since g.F.Folder.faults IsMoveOf AreKnown (IsSavedBy is_accepted (InitIsDone (g.G.HandedFiles.handed c.args.handed.now) c.args.paths.index.now c.args.paths.targets.items c.args.paths.pins.items)) c.args.folder.now c.end_left.new.folder c.end_left.ensures.moved
 
 pub returns-in_err-steps_before-clause-nothing_saved : goal.returns-in_err-steps_before-clause-nothing_saved
 returns-in_err-steps_before-clause-nothing_saved g c = or_else c.from_residual-in_err-steps_before.result IsFaultOfSaving _ c.end_left.ensures.moved
@@ -33,7 +32,7 @@ pub returns-in_err-files-clause-called : goal.returns-in_err-files-clause-called
 returns-in_err-files-clause-called g c = not_ok c.from_residual-in_err-files.result _ _ c.from_residual-in_err-files.ensures.1
 
 pub returns-in_err-files-clause-any_moment : goal.returns-in_err-files-clause-any_moment
-returns-in_err-files-clause-any_moment g c = only_left g.F.Folder.held g.F.Folder.may_leave g.F.Folder.moment g.F.Folder.left_since g.F.Folder.faults IsMoveOf AreKnown (IsSavedBy is_accepted (InitIsDone (names_of c.args.paths.targets.items) (names_of c.args.paths.pins.items))) c.args.folder.now c.end_left.new.folder c.end_left.ensures.moved
+returns-in_err-files-clause-any_moment g c = only_left g.F.Folder.held g.F.Folder.may_leave g.F.Folder.moment g.F.Folder.left_since g.F.Folder.faults IsMoveOf AreKnown (IsSavedBy is_accepted (InitIsDone (g.G.HandedFiles.handed c.args.handed.now) c.args.paths.index.now c.args.paths.targets.items c.args.paths.pins.items)) c.args.folder.now c.end_left.new.folder c.end_left.ensures.moved
 
 pub returns-in_err-files-clause-nothing_saved : goal.returns-in_err-files-clause-nothing_saved
 returns-in_err-files-clause-nothing_saved g c = or_else c.from_residual-in_err-files.result IsFaultOfSaving _ c.end_left.ensures.moved
@@ -42,7 +41,7 @@ pub returns-in_err-refuse_link-clause-called : goal.returns-in_err-refuse_link-c
 returns-in_err-refuse_link-clause-called g c = not_ok c.from_residual-in_err-refuse_link.result _ _ c.from_residual-in_err-refuse_link.ensures.1
 
 pub returns-in_err-refuse_link-clause-any_moment : goal.returns-in_err-refuse_link-clause-any_moment
-returns-in_err-refuse_link-clause-any_moment g c = only_left g.F.Folder.held g.F.Folder.may_leave g.F.Folder.moment g.F.Folder.left_since g.F.Folder.faults IsMoveOf AreKnown (IsSavedBy is_accepted (InitIsDone (names_of c.args.paths.targets.items) (names_of c.args.paths.pins.items))) c.args.folder.now c.end_left.new.folder c.end_left.ensures.moved
+returns-in_err-refuse_link-clause-any_moment g c = only_left g.F.Folder.held g.F.Folder.may_leave g.F.Folder.moment g.F.Folder.left_since g.F.Folder.faults IsMoveOf AreKnown (IsSavedBy is_accepted (InitIsDone (g.G.HandedFiles.handed c.args.handed.now) c.args.paths.index.now c.args.paths.targets.items c.args.paths.pins.items)) c.args.folder.now c.end_left.new.folder c.end_left.ensures.moved
 
 pub returns-in_err-refuse_link-clause-nothing_saved : goal.returns-in_err-refuse_link-clause-nothing_saved
 returns-in_err-refuse_link-clause-nothing_saved g c = or_else c.from_residual-in_err-refuse_link.result IsFaultOfSaving _ c.end_left.ensures.moved
@@ -51,7 +50,7 @@ pub returns-in_err-text-clause-called : goal.returns-in_err-text-clause-called
 returns-in_err-text-clause-called g c = not_ok c.from_residual-in_err-text.result _ _ c.from_residual-in_err-text.ensures.1
 
 pub returns-in_err-text-clause-any_moment : goal.returns-in_err-text-clause-any_moment
-returns-in_err-text-clause-any_moment g c = only_left g.F.Folder.held g.F.Folder.may_leave g.F.Folder.moment g.F.Folder.left_since g.F.Folder.faults IsMoveOf AreKnown (IsSavedBy is_accepted (InitIsDone (names_of c.args.paths.targets.items) (names_of c.args.paths.pins.items))) c.args.folder.now c.end_left.new.folder c.end_left.ensures.moved
+returns-in_err-text-clause-any_moment g c = only_left g.F.Folder.held g.F.Folder.may_leave g.F.Folder.moment g.F.Folder.left_since g.F.Folder.faults IsMoveOf AreKnown (IsSavedBy is_accepted (InitIsDone (g.G.HandedFiles.handed c.args.handed.now) c.args.paths.index.now c.args.paths.targets.items c.args.paths.pins.items)) c.args.folder.now c.end_left.new.folder c.end_left.ensures.moved
 
 pub returns-in_err-text-clause-nothing_saved : goal.returns-in_err-text-clause-nothing_saved
 returns-in_err-text-clause-nothing_saved g c = or_else c.from_residual-in_err-text.result IsFaultOfSaving _ c.end_left.ensures.moved
@@ -60,7 +59,7 @@ pub returns-in_err-add_first_lock-clause-called : goal.returns-in_err-add_first_
 returns-in_err-add_first_lock-clause-called g c = not_ok c.from_residual-in_err-add_first_lock.result _ _ c.from_residual-in_err-add_first_lock.ensures.1
 
 pub returns-in_err-add_first_lock-clause-any_moment : goal.returns-in_err-add_first_lock-clause-any_moment
-returns-in_err-add_first_lock-clause-any_moment g c = only_left g.F.Folder.held g.F.Folder.may_leave g.F.Folder.moment g.F.Folder.left_since g.F.Folder.faults IsMoveOf AreKnown (IsSavedBy is_accepted (InitIsDone (names_of c.args.paths.targets.items) (names_of c.args.paths.pins.items))) c.args.folder.now c.end_left.new.folder c.end_left.ensures.moved
+returns-in_err-add_first_lock-clause-any_moment g c = only_left g.F.Folder.held g.F.Folder.may_leave g.F.Folder.moment g.F.Folder.left_since g.F.Folder.faults IsMoveOf AreKnown (IsSavedBy is_accepted (InitIsDone (g.G.HandedFiles.handed c.args.handed.now) c.args.paths.index.now c.args.paths.targets.items c.args.paths.pins.items)) c.args.folder.now c.end_left.new.folder c.end_left.ensures.moved
 
 pub returns-in_err-add_first_lock-clause-nothing_saved : goal.returns-in_err-add_first_lock-clause-nothing_saved
 returns-in_err-add_first_lock-clause-nothing_saved g c = or_else c.from_residual-in_err-add_first_lock.result IsFaultOfSaving _ c.end_left.ensures.moved
@@ -69,7 +68,7 @@ pub returns-in_err-add_replaced-clause-called : goal.returns-in_err-add_replaced
 returns-in_err-add_replaced-clause-called g c = not_ok c.from_residual-in_err-add_replaced.result _ _ c.from_residual-in_err-add_replaced.ensures.1
 
 pub returns-in_err-add_replaced-clause-any_moment : goal.returns-in_err-add_replaced-clause-any_moment
-returns-in_err-add_replaced-clause-any_moment g c = only_left g.F.Folder.held g.F.Folder.may_leave g.F.Folder.moment g.F.Folder.left_since g.F.Folder.faults IsMoveOf AreKnown (IsSavedBy is_accepted (InitIsDone (names_of c.args.paths.targets.items) (names_of c.args.paths.pins.items))) c.args.folder.now c.end_left.new.folder c.end_left.ensures.moved
+returns-in_err-add_replaced-clause-any_moment g c = only_left g.F.Folder.held g.F.Folder.may_leave g.F.Folder.moment g.F.Folder.left_since g.F.Folder.faults IsMoveOf AreKnown (IsSavedBy is_accepted (InitIsDone (g.G.HandedFiles.handed c.args.handed.now) c.args.paths.index.now c.args.paths.targets.items c.args.paths.pins.items)) c.args.folder.now c.end_left.new.folder c.end_left.ensures.moved
 
 pub returns-in_err-add_replaced-clause-nothing_saved : goal.returns-in_err-add_replaced-clause-nothing_saved
 returns-in_err-add_replaced-clause-nothing_saved g c = or_else c.from_residual-in_err-add_replaced.result IsFaultOfSaving _ c.end_left.ensures.moved
@@ -78,7 +77,7 @@ pub returns-in_err-remove_left-clause-called : goal.returns-in_err-remove_left-c
 returns-in_err-remove_left-clause-called g c = not_ok c.from_residual-in_err-remove_left.result _ _ c.from_residual-in_err-remove_left.ensures.1
 
 pub returns-in_err-remove_left-clause-any_moment : goal.returns-in_err-remove_left-clause-any_moment
-returns-in_err-remove_left-clause-any_moment g c = only_left g.F.Folder.held g.F.Folder.may_leave g.F.Folder.moment g.F.Folder.left_since g.F.Folder.faults IsMoveOf AreKnown (IsSavedBy is_accepted (InitIsDone (names_of c.args.paths.targets.items) (names_of c.args.paths.pins.items))) c.args.folder.now c.remove_left.new.folder (moved_removed g.F.Folder.held g.F.Folder.may_leave g.F.Folder.moment g.F.Folder.left_since g.F.Folder.faults c.args.folder.now c.end_left.new.folder c.remove_left.new.folder c.end_left.ensures.moved c.remove_left.ensures)
+returns-in_err-remove_left-clause-any_moment g c = only_left g.F.Folder.held g.F.Folder.may_leave g.F.Folder.moment g.F.Folder.left_since g.F.Folder.faults IsMoveOf AreKnown (IsSavedBy is_accepted (InitIsDone (g.G.HandedFiles.handed c.args.handed.now) c.args.paths.index.now c.args.paths.targets.items c.args.paths.pins.items)) c.args.folder.now c.remove_left.new.folder (moved_removed g.F.Folder.held g.F.Folder.may_leave g.F.Folder.moment g.F.Folder.left_since g.F.Folder.faults c.args.folder.now c.end_left.new.folder c.remove_left.new.folder c.end_left.ensures.moved c.remove_left.ensures)
 
 pub returns-in_err-remove_left-clause-nothing_saved : goal.returns-in_err-remove_left-clause-nothing_saved
 returns-in_err-remove_left-clause-nothing_saved g c = or_else c.from_residual-in_err-remove_left.result IsFaultOfSaving _ (moved_removed g.F.Folder.held g.F.Folder.may_leave g.F.Folder.moment g.F.Folder.left_since g.F.Folder.faults c.args.folder.now c.end_left.new.folder c.remove_left.new.folder c.end_left.ensures.moved c.remove_left.ensures)
@@ -93,7 +92,7 @@ returns-in_err-rewrite-clause-called g c = not_ok c.from_residual-in_err-rewrite
 
 pub returns-in_err-rewrite-clause-any_moment : goal.returns-in_err-rewrite-clause-any_moment
 returns-in_err-rewrite-clause-any_moment g c =
-    is_answering g.F.Folder.held g.F.Folder.may_leave g.F.Folder.moment g.F.Folder.left_since g.F.Folder.faults IsMoveOf AreKnown is_accepted (InitIsDone (names_of c.args.paths.targets.items) (names_of c.args.paths.pins.items)) c.in_ok-files.field-0.files c.in_ok-files.field-0.session (Done c.in_ok-files.field-0.session.past.cursor) c.in_ok-files.ensures.begins c.args.folder.now c.remove_left.new.folder c.rewrite.new.folder
+    is_answering g.F.Folder.held g.F.Folder.may_leave g.F.Folder.moment g.F.Folder.left_since g.F.Folder.faults IsMoveOf AreKnown is_accepted (InitIsDone (g.G.HandedFiles.handed c.args.handed.now) c.args.paths.index.now c.args.paths.targets.items c.args.paths.pins.items) c.in_ok-files.field-0.files c.in_ok-files.field-0.session (Done c.in_ok-files.field-0.session.past.cursor) c.in_ok-files.ensures.begins c.args.folder.now c.remove_left.new.folder c.rewrite.new.folder
     (moved_removed g.F.Folder.held g.F.Folder.may_leave g.F.Folder.moment g.F.Folder.left_since g.F.Folder.faults c.args.folder.now c.end_left.new.folder c.remove_left.new.folder c.end_left.ensures.moved c.remove_left.ensures)
     (all_same g.F.Folder.held g.F.Folder.may_leave g.F.Folder.moment g.F.Folder.left_since g.F.Folder.faults (λ h. AreKnown h (bytes_read c.in_ok-files.field-0.files)) (known_same (bytes_read c.in_ok-files.field-0.files)) c.end_left.new.folder c.remove_left.new.folder c.remove_left.ensures
     (all_settled g.F.Folder.held g.F.Folder.may_leave g.F.Folder.moment g.F.Folder.left_since g.F.Folder.faults (λ h. AreKnown h (bytes_read c.in_ok-files.field-0.files)) c.end_left.new.folder (c.in_ok-left.ensures.settled c.requires) c.in_ok-files.ensures.known))
@@ -108,7 +107,7 @@ returns-in_err-print-clause-called g c = not_ok c.from_residual-in_err-print.res
 
 pub returns-in_err-print-clause-any_moment : goal.returns-in_err-print-clause-any_moment
 returns-in_err-print-clause-any_moment g c =
-    is_answering g.F.Folder.held g.F.Folder.may_leave g.F.Folder.moment g.F.Folder.left_since g.F.Folder.faults IsMoveOf AreKnown is_accepted (InitIsDone (names_of c.args.paths.targets.items) (names_of c.args.paths.pins.items)) c.in_ok-files.field-0.files c.in_ok-files.field-0.session (Done c.in_ok-files.field-0.session.past.cursor) c.in_ok-files.ensures.begins c.args.folder.now c.remove_left.new.folder c.rewrite.new.folder
+    is_answering g.F.Folder.held g.F.Folder.may_leave g.F.Folder.moment g.F.Folder.left_since g.F.Folder.faults IsMoveOf AreKnown is_accepted (InitIsDone (g.G.HandedFiles.handed c.args.handed.now) c.args.paths.index.now c.args.paths.targets.items c.args.paths.pins.items) c.in_ok-files.field-0.files c.in_ok-files.field-0.session (Done c.in_ok-files.field-0.session.past.cursor) c.in_ok-files.ensures.begins c.args.folder.now c.remove_left.new.folder c.rewrite.new.folder
     (moved_removed g.F.Folder.held g.F.Folder.may_leave g.F.Folder.moment g.F.Folder.left_since g.F.Folder.faults c.args.folder.now c.end_left.new.folder c.remove_left.new.folder c.end_left.ensures.moved c.remove_left.ensures)
     (all_same g.F.Folder.held g.F.Folder.may_leave g.F.Folder.moment g.F.Folder.left_since g.F.Folder.faults (λ h. AreKnown h (bytes_read c.in_ok-files.field-0.files)) (known_same (bytes_read c.in_ok-files.field-0.files)) c.end_left.new.folder c.remove_left.new.folder c.remove_left.ensures
     (all_settled g.F.Folder.held g.F.Folder.may_leave g.F.Folder.moment g.F.Folder.left_since g.F.Folder.faults (λ h. AreKnown h (bytes_read c.in_ok-files.field-0.files)) c.end_left.new.folder (c.in_ok-left.ensures.settled c.requires) c.in_ok-files.ensures.known))
@@ -120,7 +119,7 @@ returns-in_err-print-clause-nothing_saved g c =
 
 pub returns-clause-called : goal.returns-clause-called
 returns-clause-called g c =
-    answers g.F.Folder.held g.F.Folder.may_leave g.F.Folder.moment g.F.Folder.left_since g.F.Folder.faults IsMoveOf AreKnown is_accepted (InitIsDone (names_of c.args.paths.targets.items) (names_of c.args.paths.pins.items)) c.in_ok-files.field-0.files c.in_ok-files.field-0.session (Done c.in_ok-files.field-0.session.past.cursor) c.in_ok-files.ensures.begins
+    answers g.F.Folder.held g.F.Folder.may_leave g.F.Folder.moment g.F.Folder.left_since g.F.Folder.faults IsMoveOf AreKnown is_accepted (InitIsDone (g.G.HandedFiles.handed c.args.handed.now) c.args.paths.index.now c.args.paths.targets.items c.args.paths.pins.items) c.in_ok-files.field-0.files c.in_ok-files.field-0.session (Done c.in_ok-files.field-0.session.past.cursor) c.in_ok-files.ensures.begins
     (λ reply. Appends (g.O.Write.contents c.args.call.now.output) (g.O.Write.contents c.print.new.output) (text_of_reply reply))
     (subst (Appends (g.O.Write.contents c.args.call.now.output) (g.O.Write.contents c.print.new.output)) (c.as_bytes.ensures.text ∙ c.set.ensures.text ∙ ap (λ (n : ℕ). text_of_reply (Done n)) c.cursor.ensures.cursor) c.in_ok-print.ensures.bytes) c.args.folder.now c.remove_left.new.folder c.rewrite.new.folder
     (moved_removed g.F.Folder.held g.F.Folder.may_leave g.F.Folder.moment g.F.Folder.left_since g.F.Folder.faults c.args.folder.now c.end_left.new.folder c.remove_left.new.folder c.end_left.ensures.moved c.remove_left.ensures)
@@ -130,7 +129,7 @@ returns-clause-called g c =
 
 pub returns-clause-any_moment : goal.returns-clause-any_moment
 returns-clause-any_moment g c =
-    is_answering g.F.Folder.held g.F.Folder.may_leave g.F.Folder.moment g.F.Folder.left_since g.F.Folder.faults IsMoveOf AreKnown is_accepted (InitIsDone (names_of c.args.paths.targets.items) (names_of c.args.paths.pins.items)) c.in_ok-files.field-0.files c.in_ok-files.field-0.session (Done c.in_ok-files.field-0.session.past.cursor) c.in_ok-files.ensures.begins c.args.folder.now c.remove_left.new.folder c.rewrite.new.folder
+    is_answering g.F.Folder.held g.F.Folder.may_leave g.F.Folder.moment g.F.Folder.left_since g.F.Folder.faults IsMoveOf AreKnown is_accepted (InitIsDone (g.G.HandedFiles.handed c.args.handed.now) c.args.paths.index.now c.args.paths.targets.items c.args.paths.pins.items) c.in_ok-files.field-0.files c.in_ok-files.field-0.session (Done c.in_ok-files.field-0.session.past.cursor) c.in_ok-files.ensures.begins c.args.folder.now c.remove_left.new.folder c.rewrite.new.folder
     (moved_removed g.F.Folder.held g.F.Folder.may_leave g.F.Folder.moment g.F.Folder.left_since g.F.Folder.faults c.args.folder.now c.end_left.new.folder c.remove_left.new.folder c.end_left.ensures.moved c.remove_left.ensures)
     (all_same g.F.Folder.held g.F.Folder.may_leave g.F.Folder.moment g.F.Folder.left_since g.F.Folder.faults (λ h. AreKnown h (bytes_read c.in_ok-files.field-0.files)) (known_same (bytes_read c.in_ok-files.field-0.files)) c.end_left.new.folder c.remove_left.new.folder c.remove_left.ensures
     (all_settled g.F.Folder.held g.F.Folder.may_leave g.F.Folder.moment g.F.Folder.left_since g.F.Folder.faults (λ h. AreKnown h (bytes_read c.in_ok-files.field-0.files)) c.end_left.new.folder (c.in_ok-left.ensures.settled c.requires) c.in_ok-files.ensures.known))

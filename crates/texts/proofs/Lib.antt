@@ -1,0 +1,3 @@
+pub mod FieldsTold
+pub mod SplicesTold
+pub mod WheelSearch

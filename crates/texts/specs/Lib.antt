@@ -1,0 +1,3 @@
+pub mod DiffText
+pub mod OtherFields
+pub mod Tied
