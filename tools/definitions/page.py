@@ -28,6 +28,19 @@ PROMISES: tuple[tuple[str, str, tuple[tuple[str, str, str], ...]], ...] = (
             ("saves", "Called", "AtAnyMoment"),
             ("saves", "Called", "IsFaultOfSaving"),
             ("saves", "StoppedCalls", "LeavesOldOrNew"),
+            ("saves", "StoppedCalls", "LeavesOldOrNewByHand"),
+            ("saves", "StoppedCalls", "LeavesOldJournalOrNew"),
+        ),
+    ),
+    (
+        "A call that reads says what is so",
+        "`rehearse_edit`, `rehearse_step` and `rehearse_forget` of `saves`, `print_check`, `print_diff` and `answer_why` of `views`",
+        (
+            ("saves", "Rehearsed", "IsRehearsed"),
+            ("views", "Checked", "IsChecked"),
+            ("views", "Checked", "IsFoundStale"),
+            ("views", "Differences", "IsDifferenceTold"),
+            ("views", "Why", "IsAsked"),
         ),
     ),
     (

@@ -22,7 +22,7 @@ LAWS = "laws", "marker_laws", "version_one"
 # What `==` and `?` call.
 BY_SIGNS = {"eq", "from"}
 # Each item of a source file at the left margin, to the next one.
-ITEM = re.compile(r"^(?!\s|//|#|\}|\)).*?(?=^(?!\s|\}|\)|where)|\Z)", re.MULTILINE | re.DOTALL)
+ITEM = re.compile(r"^(?!\s|//|#|[})>]).*?(?=^(?!\s|[})>]|where)|\Z)", re.MULTILINE | re.DOTALL)
 HEAD = re.compile(r"(?:pub )?(?:(?P<kind>trait|struct|enum) (?P<type>\w+)|impl(?:<[^>]*>)? (?:(?P<trait>.+) for )?&?(?P<self>\w+))")
 METHOD = re.compile(r"^    (?P<pub>pub )?fn (?P<name>\w+)\b.*?^    \}$|^    (?P<pub2>pub )?fn (?P<name2>\w+)\b[^{]*?(?:\{[^\n]*\}[^{;]*?)*;", re.MULTILINE | re.DOTALL)
 CALL = re.compile(r"(?<!fn )(?<!\w)(\w+)(?:::<[^>]*>)?\(")

@@ -1,5 +1,5 @@
 -- Where the files in the places of a folder may give way: they stand for no history, or a read may fail.
-use Rattle.std.proofs.Common.{◌≡◌, ◌⊎◌, ◌∙◌, ℕ, List, Option, Some, None, Result, Err, IfErr, IfSome, IsSome, ap, inl, inr, refl, subst, sym}
+use Rattle.std.proofs.Common.{◌≡◌, ◌⊎◌, ◌∙◌, ℕ, List, Option, Some, None, Result, Ok, Err, IfErr, IfSome, IsSome, ap, inl, inr, refl, subst, sym}
 use Rattle.std.specs.Option.{option_map_or}
 use Rattle.folder.specs.Held.{Held}
 use Rattle.inputs.specs.Faults.{TellsFault}
@@ -8,6 +8,7 @@ use Rattle.inputs.specs.declared.fault.Fault.TheVariants.{Input, OutOfMemory}
 use Rattle.inputs.specs.declared.input_files.InputFault.{InputFault}
 use Rattle.inputs.specs.declared.input_files.InputFile.{InputFile}
 use Rattle.journal.specs.Changes.{HistoryParts}
+use Rattle.journal.specs.Locks.{LockTexts}
 use Rattle.journal.specs.Opens.{Opens}
 use Rattle.files.specs.Places.{AreInPlace, AreNamed, bytes_read}
 use Rattle.files.specs.Repair.{NoneStands}
@@ -28,3 +29,8 @@ pub gives_way : {X : Type 0} (text : X → List ℕ) (requirements : Option X) (
 gives_way text (Some x) o files file why f result is input tells named are = inl refl
 gives_way text None o files file why f result is input tells named are =
     inr (held_also o (λ h. AreInPlace h (bytes_read files)) NoneStands (λ h. unopened-none h files file why result (is ∙ ap Err input) tells named) are)
+
+-- files that open without another text in the place of the requirements file
+pub opens_without : {X : Type 0} (text : X → List ℕ) (requirements : Option X) (own : List ℕ) (locks : LockTexts) (journal : List ℕ) (history : HistoryParts) → requirements ≡ None → Opens (option_map_or text requirements own) locks journal (Ok history)
+    → Opens own locks journal (Ok history)
+opens_without {X} text requirements own locks journal history none opens = subst (λ (o : Option X). Opens (option_map_or text o own) locks journal (Ok history)) none opens

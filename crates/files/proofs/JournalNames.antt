@@ -58,7 +58,7 @@ target-kept locks (t ∷ targets) name kept any = elim (cases_Bool (bytes_eq t.n
   | inr other ↦ target-kept locks targets name kept.1 (rw other at any)
 ]
 
-some-there : {X : Type 0} (o : Option X) → is_some o ≡ true → (x : X) × (o ≡ Some x)
+pub some-there : {X : Type 0} (o : Option X) → is_some o ≡ true → (x : X) × (o ≡ Some x)
 some-there None none = absurd (true≢false (sym none))
 some-there (Some x) is = (x, refl)
 

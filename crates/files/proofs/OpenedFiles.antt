@@ -61,11 +61,16 @@ each-known header (lock ∷ locks) known =
     λ name there. found_or (bytes_eq name lock.0) lock.1 (lock_at locks name) ∙ or_right (bytes_eq name lock.0) (is_some (lock_at locks name)) there in
     (ap (λ (b : Bool). not b) (known lock.0 here), each-known header locks (λ name there. known name (later name there)))
 
+-- where locks are there of a header's names, each is of a target of it
+pub none-stray : (header : Header) (locks : LockTexts) → HaveNames locks (header_names header) → stray_lock header locks ≡ None
+none-stray header locks have =
+    let known : (name : List ℕ) → is_some (lock_at locks name) ≡ true → has_target header name ≡ true = λ name there. sym (among-targets header.targets name) ∙ sym (have name) ∙ there in
+    rw (none-found (λ p. not (has_target header p.0)) locks (each-known header locks known)) refl
+
 none-odd : (header : Header) (locks more : LockTexts) → AreSameLocks more locks header.targets → AllByRecursion (HasItsLock locks) header.targets → HaveNames more (header_names header) → odd_lock header more ≡ None
 none-odd header locks more same kept have =
-    let known : (name : List ℕ) → is_some (lock_at more name) ≡ true → has_target header name ≡ true = λ name there. sym (among-targets header.targets name) ∙ sym (have name) ∙ there in
     let lost : lost_lock header more ≡ None = rw (none-found (λ t. not (is_kept more t)) header.targets (still-kept locks more header.targets same kept)) refl in
-    let stray : stray_lock header more ≡ None = rw (none-found (λ p. not (has_target header p.0)) more (each-known header more known)) refl in
+    let stray : stray_lock header more ≡ None = none-stray header more have in
     rw (lost, stray) refl
 
 -- ---- they open

@@ -32,20 +32,20 @@ one-header journal x y p q =
     λ i. (first i, behind i)
 
 -- the tests behind the header, the present state, and that for an odd lock file
-abbrev with_state : Header → List ℕ → State → Result HistoryParts Refusal → Type 0
+abbrev pub with_state : Header → List ℕ → State → Result HistoryParts Refusal → Type 0
 with_state header steps state =
     Then (StepLines header header.steps 2 steps) (λ changes. Then (PastOf header.cursor changes state) (λ past. IsAnswer (parts_of past changes)))
 
-abbrev with_header : List ℕ → LockTexts → Header × List ℕ → Result HistoryParts Refusal → Type 0
+abbrev pub with_header : List ℕ → LockTexts → Header × List ℕ → Result HistoryParts Refusal → Type 0
 with_header requirements locks begin = Then (Present begin.0 requirements locks) (with_state begin.0 begin.1)
 
-abbrev with_targets : List (List ℕ) → List Target → Result State Refusal → Type 0
+abbrev pub with_targets : List (List ℕ) → List Target → Result State Refusal → Type 0
 with_targets lines targets = Checks (AllByRecursion NamesEnvironment targets) (JournalBroken 1) (IsAnswer (record { lines = lines; targets = targets }))
 
-abbrev with_lines : LockTexts → List HeaderTarget → List (List ℕ) → Result State Refusal → Type 0
+abbrev pub with_lines : LockTexts → List HeaderTarget → List (List ℕ) → Result State Refusal → Type 0
 with_lines locks targets lines = Then (TargetsRead locks targets) (with_targets lines)
 
-abbrev with_locks : List ℕ → LockTexts → List HeaderTarget → Result State Refusal → Type 0
+abbrev pub with_locks : List ℕ → LockTexts → List HeaderTarget → Result State Refusal → Type 0
 with_locks requirements locks targets = Finds (λ lines. file_of requirements ≡ Ok lines) (FilesDisagree Requirements) (with_lines locks targets)
 
 -- what a header tells of files that open behind it

@@ -26,7 +26,7 @@ use Rattle.files.specs.declared.saved_files.SavedFiles.{SavedFiles}
 -- ---- items of lists
 
 -- what each has that has another thing, all have
-all_also : {X : Type 0} (P Q : X → Type 0) (xs : List X) → ((x : X) → P x → Q x) → AllByRecursion P xs → AllByRecursion Q xs
+pub all_also : {X : Type 0} (P Q : X → Type 0) (xs : List X) → ((x : X) → P x → Q x) → AllByRecursion P xs → AllByRecursion Q xs
 all_also P Q [] also all = tt
 all_also P Q (x ∷ xs) also all = (also x all.0, all_also P Q xs also all.1)
 

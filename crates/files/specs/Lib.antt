@@ -1,7 +1,9 @@
 pub mod Beside
+pub mod Completed
 pub mod FirstTargets
 pub mod JournalLocks
 pub mod NamedRewrites
+pub mod NextLocks
 pub mod Places
 pub mod Repair
 pub mod RewriteParts

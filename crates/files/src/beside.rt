@@ -1,10 +1,12 @@
 // Which files of a history are taken from beside their places.
 
-ghost use Rattle.std.specs.Prelude.{◌≡◌, ◌++◌, [], IfOk, OnOk, map};
+ghost use Rattle.std.specs.Prelude.{◌≡◌, ◌++◌, [], IfErr, IfOk, OnOk, map};
+ghost use Rattle.inputs.specs.declared.fault.Fault.TheVariants.{OutOfMemory};
 ghost use Rattle.files.specs.Beside.{files_of, has, one_where};
+ghost use Rattle.files.specs.NextLocks.{Takes, is_left_lock};
 
 use edits::TargetName;
-use inputs::InputFile;
+use inputs::{Fault, InputFile};
 use std::alloc::{AllocError, Global};
 use std::collections::BTreeSet;
 
@@ -78,6 +80,18 @@ pub(crate) fn push_where(
         files.push(file)?;
     }
     Ok(())
+}
+
+/// Takes the lock of a fault from beside too. It answers whether it is a lock's, and wasn't taken from there.
+pub(crate) fn add_lock(beside: &mut Beside, file: InputFile) -> Result<bool, Fault>
+    ensures added { IfOk result (λ added. added ≡ is_left_lock beside.old file) }
+    ensures takes { OnOk result (Takes file beside.old beside.new) }
+    ensures memory { IfErr result (λ fault. fault ≡ OutOfMemory) }
+{
+    match file {
+        InputFile::Lock(name) => Ok(beside.locks.insert(name)?),
+        _other => Ok(false),
+    }
 }
 
 fn push_locks(files: &mut Vec<InputFile>, names: &BTreeSet<TargetName>) -> Result<(), AllocError>

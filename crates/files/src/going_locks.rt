@@ -1,24 +1,39 @@
 // The locks that go when a save that was stopped is ended.
 
-ghost use Rattle.std.specs.Prelude.{◌≡◌, IfOk};
+ghost use Rattle.std.specs.Prelude.{◌≡◌, ◌⊎◌, [], IfErr, IfOk};
+ghost use Rattle.inputs.specs.declared.fault.Fault.TheVariants.{OutOfMemory};
 ghost use Rattle.files.specs.TargetLocks.{AreGone, has_gone, has_target, is_told_of, locks_gone, tells_of};
 
 use crate::beside::Beside;
 use crate::history_folder::HistoryFolder;
-use crate::reading::{journal_in, names_in};
+use crate::reading::{file_at_fault, journal_in, names_in};
 use edits::{Change, Target, TargetName};
 use inputs::{Fault, InputFile};
 use journal::Session;
 use lists::Seq;
 use std::alloc::{AllocError, Global};
 
-/// The locks that go with the journal in its place, where that of this history takes its place: of targets that the one in
-/// its place has, and of which a step of this history tells that they went. A first lock removes none.
-pub(crate) fn going_with<F: HistoryFolder>(
+/// The locks that are to go before the journal of this history is renamed to its place, where it is.
+pub(crate) fn going_where<F: HistoryFolder>(
     folder: &F,
     session: &Session,
+    is_journal: bool,
 ) -> Result<Vec<InputFile>, Fault>
-    ensures { IfOk result (λ going. AreGone session.now going.items) }
+    ensures gone { IfOk result (λ going. AreGone session.now going.items ⊎ (going.items ≡ [])) }
+    ensures memory { IfErr result (λ fault. fault ≡ OutOfMemory) }
+{
+    if is_journal {
+        going_with(folder, session)
+    } else {
+        Ok(Vec::new(folder.alloc()))
+    }
+}
+
+/// The locks that go with the journal in its place, where that of this history takes its place: of targets that the one in
+/// its place has, and of which a step of this history tells that they went. A first lock removes none.
+fn going_with<F: HistoryFolder>(folder: &F, session: &Session) -> Result<Vec<InputFile>, Fault>
+    ensures gone { IfOk result (λ going. AreGone session.now going.items) }
+    ensures memory { IfErr result (λ fault. fault ≡ OutOfMemory) }
 {
     let names = standing_names(folder)?;
     let targets = session.state().targets();
@@ -26,12 +41,16 @@ pub(crate) fn going_with<F: HistoryFolder>(
 }
 
 /// The targets that the journal in its place has. One that can't be read has none.
-fn standing_names<F: HistoryFolder>(folder: &F) -> Result<Seq<TargetName>, Fault> {
+fn standing_names<F: HistoryFolder>(folder: &F) -> Result<Seq<TargetName>, Fault>
+    ensures memory { IfErr result (λ fault. fault ≡ OutOfMemory) }
+{
     let alloc = folder.alloc();
     match journal_in(folder, &Beside::none(alloc)) {
         Ok(journal) => names_in(alloc, &journal),
-        Err(Fault::Input(_file, _fault)) => Ok(Seq::new(alloc)),
-        Err(fault) => Err(fault),
+        Err(fault) => {
+            file_at_fault(fault)?;
+            Ok(Seq::new(alloc))
+        }
     }
 }
 

@@ -2,7 +2,9 @@
 
 ghost use Rattle.std.specs.Prelude.{◌≡◌, IfErr, IfOk, IfSome, Some};
 ghost use Rattle.files.specs.Beside.{has};
+ghost use Rattle.files.specs.Completed.{IsUnless};
 ghost use Rattle.files.specs.JournalLocks.{HaveNames, Names};
+ghost use Rattle.files.specs.NextLocks.{IsCounted, IsFaultOf, LacksLockOf, file_at_fault};
 ghost use Rattle.files.specs.Places.{AreUnread, IsUnread, LacksLock, LocksStandAt, standing};
 ghost use Rattle.inputs.specs.declared.fault.Fault.TheVariants.{OutOfMemory};
 ghost use Rattle.inputs.specs.declared.input_files.InputFile.TheVariants as input_files;
@@ -29,6 +31,21 @@ pub fn names_in(alloc: Global, journal: &Journal) -> Result<Seq<TargetName>, Fau
     }
 }
 
+/// How many locks the journal names; none where it can't be read.
+pub(crate) fn count_named<F: HistoryFolder>(folder: &F, beside: &Beside) -> Result<usize, Fault>
+    ensures counted { IfOk result (λ count. IsUnless (F.may_fail folder.now) (F.held folder.now)
+        (IsCounted beside.now count)) }
+    ensures memory { IfErr result (λ fault. fault ≡ OutOfMemory) }
+{
+    match journal_in(folder, beside) {
+        Ok(journal) => Ok(names_in(folder.alloc(), &journal)?.len()),
+        Err(fault) => {
+            file_at_fault(fault)?;
+            Ok(0)
+        }
+    }
+}
+
 /// The locks of targets, in their places or, where they are among these, beside them.
 pub fn locks_in<F: HistoryFolder>(
     folder: &F,
@@ -40,6 +57,8 @@ pub fn locks_in<F: HistoryFolder>(
     ensures named { IfOk result (λ locks. HaveNames locks.entries names) }
     ensures unread { IfErr result (AreUnread (F.held folder.now) (F.may_fail folder.now)
         (LacksLock (has beside.now) names)) }
+    ensures fault { IfErr result (IsFaultOf (F.may_fail folder.now) (F.held folder.now)
+        (LacksLockOf (has beside.now) names)) }
 {
     let mut locks = BTreeMap::new(folder.alloc());
     for name in names.into_vec() {
@@ -73,4 +92,14 @@ pub fn read_in<F: HistoryFolder>(
 {
     let is_beside = beside.has(&file);
     folder.read(file, is_beside)
+}
+
+/// The file that a fault is of. A fault that is of none is answered.
+pub(crate) fn file_at_fault(fault: Fault) -> Result<InputFile, Fault>
+    ensures { result ≡ file_at_fault fault }
+{
+    match fault {
+        Fault::Input(file, _fault) => Ok(file),
+        fault => Err(fault),
+    }
 }

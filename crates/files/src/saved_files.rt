@@ -5,10 +5,12 @@ ghost use Rattle.std.specs.Bool.{⊤};
 ghost use Rattle.std.specs.Cmp.Lexicographic.{slice_cmp};
 ghost use Rattle.std.specs.Option.{option_map_or};
 ghost use Rattle.std.specs.Ordering.{nat_cmp};
-ghost use Rattle.std.specs.Prelude.{◌≡◌, ◌++◌, IfErr, IfOk, IfSome, IsSome, OnOk, Ok, Err, Some, string_bytes};
+ghost use Rattle.std.specs.Prelude.{◌≡◌, ◌++◌, IfErr, IfOk, IfSome, IsSome, OnOk, Ok, Err, None, Some, string_bytes};
 ghost use Rattle.folder.specs.Calls.{IsSettled, Ran};
 ghost use Rattle.journal.specs.Opens.{Opens, ToldBy};
 ghost use Rattle.files.specs.Beside.{StandFor, has, taken_from};
+ghost use Rattle.files.specs.Completed.{StaysCompletable};
+ghost use Rattle.files.specs.NextLocks.{IsFaultOf, IsLacking};
 ghost use Rattle.files.specs.Places.{AllAre, AreInPlace, AreKnown, AreNamed, AreUnread, IsUnsaved, NoFilesStand, StandAt, bytes_read};
 ghost use Rattle.files.specs.Repair.{IsRepairOf, NoneStands};
 ghost use Rattle.files.specs.Saving.{IsBeingSavedOver, IsSavedOver};
@@ -60,6 +62,8 @@ impl SavedFiles {
         ensures repaired { Ran F.held F.may_leave F.moment F.left_since F.faults
             (IsRepairOf (F.may_fail folder.old)) (IsRepairOf (F.may_fail folder.old))
             folder.old folder.new }
+        ensures kept { Ran F.held F.may_leave F.moment F.left_since F.faults
+            StaysCompletable StaysCompletable folder.old folder.new }
     {
         match SavedFiles::read(&*folder) {
             Err(Fault::Input(file, fault)) => {
@@ -95,6 +99,8 @@ impl SavedFiles {
         ensures named { IfOk result AreNamed }
         ensures unread { IfErr result (AreUnread (F.held folder.now) (F.may_fail folder.now)
             (NoFilesStand (has beside.now))) }
+        ensures fault { IfErr result (IsFaultOf (F.may_fail folder.now) (F.held folder.now)
+            (IsLacking (has beside.now))) }
     {
         let requirements = read_in(folder, InputFile::Requirements, beside)?;
         let journal = journal_in(folder, beside)?;
@@ -164,6 +170,8 @@ impl SavedFiles {
             (F.may_leave folder.new) (λ h. AreInPlace h (bytes_read opened.0))) }
         ensures repaired { Ran F.held F.may_leave F.moment F.left_since F.faults
             (IsRepairOf ⊥) (IsRepairOf ⊥) folder.old folder.new }
+        ensures kept { Ran F.held F.may_leave F.moment F.left_since F.faults
+            StaysCompletable StaysCompletable folder.old folder.new }
     {
         self.open_over_to_save(folder, None)
     }
@@ -205,6 +213,8 @@ impl SavedFiles {
             (F.may_leave folder.new) (λ h. AreInPlace h (bytes_read opened.0))) }
         ensures repaired { Ran F.held F.may_leave F.moment F.left_since F.faults
             (IsRepairOf (IsSome requirements.entry)) (IsRepairOf (IsSome requirements.entry)) folder.old folder.new }
+        ensures kept { requirements.entry ≡ None → Ran F.held F.may_leave F.moment F.left_since F.faults
+            StaysCompletable StaysCompletable folder.old folder.new }
     {
         match self.open_over(folder.alloc(), requirements) {
             Ok(session) => {

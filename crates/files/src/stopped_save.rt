@@ -1,17 +1,21 @@
 // A save that was stopped between two files, and what is left of it beside the places of the others.
 
-ghost use Rattle.std.specs.Prelude.{◌≡◌, IfOk, IfSome, IsSomeAnd, OnOk};
+ghost use Rattle.std.specs.Bool.{OnFalse, OnTrue};
+ghost use Rattle.std.specs.Prelude.{◌≡◌, ◌⊎◌, IfErr, IfNone, IfOk, IfSome, IsSomeAnd, OnOk};
 ghost use Rattle.folder.specs.Calls.{IsSettled, Ran, Stays};
 ghost use Rattle.folder.specs.Repairs.{AreBeside, IsMoveOf};
-ghost use Rattle.journal.specs.Past.{IsAtEnd, IsRedone, IsUndone, present};
-ghost use Rattle.files.specs.Beside.{FilesStandBeside, completed_by, has, has_lines, has_requirements};
+ghost use Rattle.inputs.specs.declared.fault.Fault.TheVariants.{OutOfMemory};
+ghost use Rattle.journal.specs.Past.{IsAtEnd, IsAtStart, IsRedone, IsUndone, present};
+ghost use Rattle.files.specs.Beside.{FilesStandBeside, StandFor, completed_by, has, has_lines, has_requirements};
+ghost use Rattle.files.specs.Completed.{GivesWay, IsBeyondRepair, IsUnless, IsWayBack, IsWayOf, LacksRequirements, Stands, StaysCompletable};
+ghost use Rattle.files.specs.NextLocks.{IsFaultOf, IsNext, NoneTakesMore};
 ghost use Rattle.files.specs.Places.{StandAt, bytes_read};
 ghost use Rattle.files.specs.Repair.{IsRemoved};
 
-use crate::beside::Beside;
-use crate::going_locks::going_with;
+use crate::beside::{Beside, add_lock};
+use crate::going_locks::going_where;
 use crate::history_folder::HistoryFolder;
-use crate::reading::{journal_in, names_in};
+use crate::reading::{count_named, file_at_fault, journal_in, names_in};
 use crate::rewrite::names_of_all;
 use crate::saved_files::SavedFiles;
 use folder::{Left, clear_names, end_save};
@@ -32,6 +36,12 @@ pub fn end_stopped<F: HistoryFolder>(folder: &mut F) -> Result<bool, Fault>
         folder.old folder.new }
     ensures settled { OnOk result (IsSettled F.held F.may_leave folder.old
         → IsSettled F.held F.may_leave folder.new) }
+    ensures ended { IfOk result (λ ended. OnTrue ended (IfSome (F.held folder.new) Stands)) }
+    ensures none { IfOk result (λ ended. OnFalse ended
+        (IsUnless (F.may_fail folder.old) (F.held folder.old) IsBeyondRepair)) }
+    ensures kept { IsSettled F.held F.may_leave folder.old
+        → Ran F.held F.may_leave F.moment F.left_since F.faults StaysCompletable StaysCompletable
+        folder.old folder.new }
 {
     let Some(left) = left_in(&mut *folder)? else {
         return Ok(false);
@@ -48,6 +58,10 @@ fn left_in<F: HistoryFolder>(folder: &mut F) -> Result<Option<Left>, Fault>
         folder.old folder.new }
     ensures beside { IfOk result (λ answer. IfSome answer
         (λ l. IfSome (F.held folder.old) (AreBeside l.names))) }
+    ensures way { IfOk result (λ answer. IfSome answer
+        (λ l. IfSome (F.held folder.old) (IsWayBack l))) }
+    ensures none { IfOk result (λ answer. IfNone answer
+        (IsUnless (F.may_fail folder.old) (F.held folder.old) IsBeyondRepair)) }
 {
     let Some(found) = found_in(&*folder)? else {
         return Ok(None);
@@ -71,8 +85,14 @@ struct Found {
 
 /// What a save that was stopped has left, by the first way in which the files open.
 fn found_in<F: HistoryFolder>(folder: &F) -> Result<Option<Found>, Fault>
-    ensures { IfOk result (λ answer. IfSome answer
+    ensures beside { IfOk result (λ answer. IfSome answer
         (λ found. IfSome (F.held folder.now) (FilesStandBeside found.beside.items))) }
+    ensures way { IfOk result (λ answer. IfSome answer
+        (λ found. IfSome (F.held folder.now) (IsWayOf found.going.items found.beside.items))) }
+    ensures none { IfOk result (λ answer. IfNone answer
+        (IsUnless (F.may_fail folder.now) (F.held folder.now) IsBeyondRepair)) }
+    ensures fault { IfErr result (λ fault. (fault ≡ OutOfMemory)
+        ⊎ IsUnless (F.may_fail folder.now) (F.held folder.now) IsBeyondRepair) }
 {
     for (requirements, journal) in LEFT_BESIDE {
         let beside = Beside::of(folder.alloc(), requirements, journal);
@@ -186,25 +206,40 @@ fn add_names(alloc: Global, beside: &mut Beside, journal: &Journal) -> Result<()
 /// beside and with each lock that doesn't fit in its place. A requirements file gives way only where its history has it:
 /// one that was changed by hand stays.
 fn left_with<F: HistoryFolder>(folder: &F, beside: Beside) -> Result<Option<Found>, Fault>
-    ensures { IfOk result (λ answer. IfSome answer
+    ensures beside { IfOk result (λ answer. IfSome answer
         (λ found. IfSome (F.held folder.now) (FilesStandBeside found.beside.items))) }
+    ensures way { IfOk result (λ answer. IfSome answer
+        (λ found. IfSome (F.held folder.now) (IsWayOf found.going.items found.beside.items))) }
+    ensures none { IfOk result (λ answer. IfNone answer
+        (IsUnless (F.may_fail folder.now) (F.held folder.now) (NoneTakesMore beside))) }
+    ensures fault { IfErr result (λ fault. (fault ≡ OutOfMemory)
+        ⊎ IsUnless (F.may_fail folder.now) (F.held folder.now) LacksRequirements) }
 {
     let Some((beside, files, session)) = completed(folder, beside)? else {
         return Ok(None);
     };
-    let going = if beside.journal {
-        going_with(folder, &session)?
-    } else {
-        Vec::new(folder.alloc())
-    };
-    if beside.requirements {
-        let standing = folder.read(InputFile::Requirements, false)?;
-        if !has_requirements(folder.alloc(), session, standing.as_slice())? {
-            return Ok(None);
-        }
+    let going = going_where(folder, &session, beside.journal)?;
+    if !gives_way(folder, session, beside.requirements)? {
+        return Ok(None);
     }
     let beside = files.taken_from(folder.alloc(), &beside)?;
     Ok(Some(Found { beside, going }))
+}
+
+/// Whether the requirements file in its place may give way to one from beside it, where that is to be.
+fn gives_way<F: HistoryFolder>(folder: &F, session: Session, is_beside: bool) -> Result<bool, Fault>
+    ensures gives { IfOk result (λ gives. OnTrue gives
+        (IfSome (F.held folder.now) (GivesWay is_beside session))) }
+    ensures stays { IfOk result (λ gives. OnFalse gives
+        (IfSome (F.held folder.now) (λ h. GivesWay is_beside session h → ⊥))) }
+    ensures fault { IfErr result (λ fault. (fault ≡ OutOfMemory)
+        ⊎ IsUnless (F.may_fail folder.now) (F.held folder.now) LacksRequirements) }
+{
+    if !is_beside {
+        return Ok(true);
+    }
+    let standing = folder.read(InputFile::Requirements, false)?;
+    has_requirements(folder.alloc(), session, standing.as_slice())
 }
 
 /// The files with which the folder opens, and what it stands for with them. A lock that is told not to
@@ -213,38 +248,28 @@ fn completed<F: HistoryFolder>(
     folder: &F,
     mut beside: Beside,
 ) -> Result<Option<(Beside, SavedFiles, Session)>, Fault>
-    ensures { IfOk result (λ answer. IfSome answer (λ found. IfSome (F.held folder.now)
+    ensures stand { IfOk result (λ answer. IfSome answer (λ found. IfSome (F.held folder.now)
         (λ h. StandAt (has found.0) h (bytes_read found.1)))) }
+    ensures opens { IfOk result (λ answer. IfSome answer (λ found. StandFor found.1 found.2)) }
+    ensures same { IfOk result (λ answer. IfSome answer
+        (λ found. (found.0.requirements ≡ beside.requirements) × (found.0.journal ≡ beside.journal))) }
+    ensures none { IfOk result (λ answer. IfNone answer
+        (IsUnless (F.may_fail folder.now) (F.held folder.now) (NoneTakesMore beside))) }
+    ensures memory { IfErr result (λ fault. fault ≡ OutOfMemory) }
 {
-    for _ in 0..count_named(folder, &beside)? {
+    let count = count_named(folder, &beside)?;
+    for _tried in 0..count {
         match open_with(folder, &beside) {
-            Err(Fault::Input(file, _fault)) => {
-                if !add_lock(&mut beside, file)? {
+            Ok((files, session)) => return Ok(Some((beside, files, session))),
+            Err(fault) => {
+                if !add_lock(&mut beside, file_at_fault(fault)?)? {
                     return Ok(None);
                 }
             }
-            opened => return completed_by(beside, opened),
         }
     }
     let opened = open_with(folder, &beside);
     completed_by(beside, opened)
-}
-
-/// Takes the lock of a fault from beside too. It answers whether it is a lock's, and wasn't taken from there.
-fn add_lock(beside: &mut Beside, file: InputFile) -> Result<bool, Fault> {
-    match file {
-        InputFile::Lock(name) => Ok(beside.locks.insert(name)?),
-        _other => Ok(false),
-    }
-}
-
-/// How many locks the journal names; none where it can't be read.
-fn count_named<F: HistoryFolder>(folder: &F, beside: &Beside) -> Result<usize, Fault> {
-    match journal_in(folder, beside) {
-        Ok(journal) => Ok(names_in(folder.alloc(), &journal)?.len()),
-        Err(Fault::Input(_file, _fault)) => Ok(0),
-        Err(fault) => Err(fault),
-    }
 }
 
 /// These files, where the folder opens with them.
@@ -271,8 +296,11 @@ fn does_not_open<F: HistoryFolder>(folder: &F) -> Result<bool, Fault> {
 }
 
 fn open_with<F: HistoryFolder>(folder: &F, beside: &Beside) -> Result<(SavedFiles, Session), Fault>
-    ensures { IfOk result (λ opened. IfSome (F.held folder.now)
+    ensures stand { IfOk result (λ opened. IfSome (F.held folder.now)
         (λ h. StandAt (has beside.now) h (bytes_read opened.0))) }
+    ensures opens { IfOk result (λ opened. StandFor opened.0 opened.1) }
+    ensures fault { IfErr result
+        (IsFaultOf (F.may_fail folder.now) (F.held folder.now) (IsNext beside.now)) }
 {
     let files = SavedFiles::read_with(folder, beside)?;
     let session = files.open(folder.alloc())?;
@@ -281,8 +309,9 @@ fn open_with<F: HistoryFolder>(folder: &F, beside: &Beside) -> Result<(SavedFile
 
 /// Whether a state of the history has this requirements file.
 fn has_requirements(alloc: Global, mut session: Session, requirements: &[u8]) -> Result<bool, Fault>
-    ensures { IfOk result
+    ensures has { IfOk result
         (λ has. has ≡ has_requirements session.past.states requirements.now) }
+    ensures memory { IfErr result (λ fault. fault ≡ OutOfMemory) }
 {
     go_to_end(alloc, &mut session)?;
     'undone: while session.cursor() > 0 {
@@ -297,6 +326,7 @@ fn has_requirements(alloc: Global, mut session: Session, requirements: &[u8]) ->
 fn go_to_end(alloc: Global, session: &mut Session) -> Result<(), Fault>
     ensures states { OnOk result (session.new.past.states ≡ session.old.past.states) }
     ensures end { OnOk result (IsAtEnd session.new.past) }
+    ensures memory { IfErr result (λ fault. fault ≡ OutOfMemory) }
 {
     'redone: while session.cursor() < session.steps() {
         redo(alloc, session)?;
@@ -305,7 +335,8 @@ fn go_to_end(alloc: Global, session: &mut Session) -> Result<(), Fault>
 }
 
 fn undo(alloc: Global, session: &mut Session) -> Result<(), Fault>
-    ensures { OnOk result (IsUndone session.old.past session.new.past) }
+    ensures undone { OnOk result (IsUndone session.old.past session.new.past) }
+    ensures memory { IfErr result (λ fault. ¬ (IsAtStart session.old.past) → fault ≡ OutOfMemory) }
 {
     match session.apply(alloc, &Command::Undo, &RESOLVER) {
         Reply::Refused(refusal) => Err(Fault::from(refusal)),
@@ -315,7 +346,8 @@ fn undo(alloc: Global, session: &mut Session) -> Result<(), Fault>
 }
 
 fn redo(alloc: Global, session: &mut Session) -> Result<(), Fault>
-    ensures { OnOk result (IsRedone session.old.past session.new.past) }
+    ensures redone { OnOk result (IsRedone session.old.past session.new.past) }
+    ensures memory { IfErr result (λ fault. ¬ (IsAtEnd session.old.past) → fault ≡ OutOfMemory) }
 {
     match session.apply(alloc, &Command::Redo, &RESOLVER) {
         Reply::Refused(refusal) => Err(Fault::from(refusal)),
@@ -326,8 +358,9 @@ fn redo(alloc: Global, session: &mut Session) -> Result<(), Fault>
 
 /// Whether the present state has this requirements file.
 fn is_present(alloc: Global, session: &Session, requirements: &[u8]) -> Result<bool, Fault>
-    ensures { IfOk result (λ is. IsSomeAnd (present session.now.past)
+    ensures has { IfOk result (λ is. IsSomeAnd (present session.now.past)
         (λ state. is ≡ has_lines requirements.now state)) }
+    ensures memory { IfErr result (λ fault. fault ≡ OutOfMemory) }
 {
     let text = session.state().lines().bytes(alloc)?;
     Ok(text.as_str().as_bytes() == requirements)

@@ -1,3 +1,4 @@
+pub mod Completable
 pub mod Journals
 pub mod OneHistory
 pub mod Repeated

@@ -1,5 +1,6 @@
 //! Laws of what the files in a folder stand for.
 
+ghost use Rattle.power_cuts.specs.Completable.{AStoppedSaveCanBeCompleted, AStoppedSaveIsNotRefused, WhatStandsCanBeCompleted};
 ghost use Rattle.power_cuts.specs.Journals.{ACutJournalIsNone, AStopLeavesAnOldJournalOrTheNew, AnOldJournalTellsItsHistory, NoOldJournalWhereNoneStood};
 ghost use Rattle.power_cuts.specs.OneHistory.{AFolderStandsForOneHistory, AJournalTellsOneHistory};
 ghost use Rattle.power_cuts.specs.Repeated.{RepairsComeToOne};
@@ -66,4 +67,20 @@ pub fn a_stop_leaves_an_old_journal_or_the_new()
 /// Any number of repairs in turn, each ended or stopped at any moment, come to one.
 pub fn repairs_come_to_one()
     ensures law { RepairsComeToOne }
+{}
+
+/// A folder can be completed whose files stand for a history in their places.
+pub fn what_stands_can_be_completed()
+    ensures law { WhatStandsCanBeCompleted }
+{}
+
+/// What a save leaves that was stopped at any moment can be completed, where a state of the new history has the old
+/// requirements file.
+pub fn a_stopped_save_can_be_completed()
+    ensures law { AStoppedSaveCanBeCompleted }
+{}
+
+/// So no next call finds it beyond repair, whatever calls before it have left of it, if its locks are told apart.
+pub fn a_stopped_save_is_not_refused()
+    ensures law { AStoppedSaveIsNotRefused }
 {}

@@ -40,7 +40,14 @@ pub fn print_diff<R: AllocGlobal, F: StillFolder, O: Write, E: Write>(
     let change = change_in(alloc, &held, from, to)?;
     say_changed(alloc, call.dir, &held, Printed::Steps, errors)?;
     let places = (from, to);
-    let text = told_text(alloc, &change, places, held.has_other_lines(), format, call.style)?;
+    let text = told_text(
+        alloc,
+        &change,
+        places,
+        held.has_other_lines(),
+        format,
+        call.style,
+    )?;
     show(&mut call.output, text.as_bytes())?;
     Ok(())
 }

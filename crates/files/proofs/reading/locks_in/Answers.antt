@@ -1,10 +1,12 @@
 use Rattle.std.proofs.Common.{◌≡◌, ◌∙◌, [], subst, sym}
 use Rattle.std.proofs.lemmas.List.{nil_from_length}
 use Rattle.std.proofs.lemmas.Result.{err_from_is_err_and}
+use Rattle.files.proofs.FaultyFiles.{fault-memory, fault-name}
 use Rattle.files.proofs.HeldFiles.{no_lock_held, one_lock_more_held}
 use Rattle.files.proofs.NamedLocks.{HaveNamesWith, all-left, none-left, one_name_less}
 use Rattle.files.proofs.UnreadFiles.{unread_memory, unread_name}
 use Rattle.files.specs.Beside.{has}
+use Rattle.files.specs.NextLocks.{LacksLockOf}
 use Rattle.files.specs.Places.{LacksLock}
 use Rattle.files.proofs.reading.locks_in.Goals as goal
 
@@ -37,6 +39,7 @@ returns g c =
       stand = c.loop-name.invariant.0;
       named = none-left c.loop-name.locks.entries c.args.names (subst (λ l. HaveNamesWith c.loop-name.locks.entries l c.args.names) none c.loop-name.invariant.1);
       unread = tt;
+      fault = tt;
     }
 
 pub returns-in_err-lock : goal.returns-in_err-lock
@@ -49,6 +52,9 @@ returns-in_err-lock g c =
       unread =
           unread_name held (g.F.HistoryFolder.may_fail c.args.folder.now) (has c.args.beside.now) c.loop-name.locks.entries c.in-Some.name c.in_ok-clone.field-0 c.loop-name.name-iterator.rest.items c.next.new.self.rest.items c.args.names
           c.in_err-lock.field-0.0 p.0 p.2 c.in_ok-clone.ensures.cases c.in-Some.ensures.steps.0 c.loop-name.invariant.1 c.in_err-lock.ensures.fault;
+      fault =
+          fault-name (g.F.HistoryFolder.may_fail c.args.folder.now) held (has c.args.beside.now) c.loop-name.locks.entries c.in-Some.name c.in_ok-clone.field-0 c.loop-name.name-iterator.rest.items c.next.new.self.rest.items c.args.names
+          c.in_err-lock.field-0.0 p.0 p.2 c.in_ok-clone.ensures.cases c.in-Some.ensures.steps.0 c.loop-name.invariant.1 c.in_err-lock.ensures.fault;
     })
 
 pub returns-in_err-clone : goal.returns-in_err-clone
@@ -58,6 +64,7 @@ returns-in_err-clone g c =
       stand = tt;
       named = tt;
       unread = unread_memory (g.F.Folder.held c.args.folder.now) (g.F.HistoryFolder.may_fail c.args.folder.now) (LacksLock (has c.args.beside.now) c.args.names) p.0 p.2;
+      fault = fault-memory (g.F.HistoryFolder.may_fail c.args.folder.now) (g.F.Folder.held c.args.folder.now) (LacksLockOf (has c.args.beside.now) c.args.names) p.0 p.2;
     })
 
 pub returns-in_err-insert : goal.returns-in_err-insert
@@ -67,4 +74,5 @@ returns-in_err-insert g c =
       stand = tt;
       named = tt;
       unread = unread_memory (g.F.Folder.held c.args.folder.now) (g.F.HistoryFolder.may_fail c.args.folder.now) (LacksLock (has c.args.beside.now) c.args.names) p.0 p.2;
+      fault = fault-memory (g.F.HistoryFolder.may_fail c.args.folder.now) (g.F.Folder.held c.args.folder.now) (LacksLockOf (has c.args.beside.now) c.args.names) p.0 p.2;
     })

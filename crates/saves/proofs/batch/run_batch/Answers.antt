@@ -71,9 +71,16 @@ returns-in_err-rewrite-in-Save-clause-called g c = not_ok c.from_residual-in_err
 
 pub returns-in_err-rewrite-in-Save-clause-any_moment : goal.returns-in_err-rewrite-in-Save-clause-any_moment
 returns-in_err-rewrite-in-Save-clause-any_moment g c =
-    is_answering g.F.Folder.held g.F.Folder.may_leave g.F.Folder.moment g.F.Folder.left_since g.F.Folder.faults (IsRepairOf (g.F.HistoryFolder.may_fail c.args.folder.now)) AreInPlace is_save (BatchIsDone (g.G.HandedFiles.handed c.args.handed.now) c.args.options.index.now c.args.is_all_or_none c.args.options.keeps_locked (g.I.Read.remaining c.args.input) (g.O.Write.contents c.args.call.now.output) (g.O.Write.contents c.done_to_the_end.new.output)) c.in_ok-files.field-0.files c.done_to_the_end.new.session Save
-    (c.in_ok-files.field-0.session, c.in_ok-files.ensures.stand, (c.pool_of-pool.result, pool-for (g.G.HandedFiles.handed c.args.handed.now) c.args.options.index.now c.args.options.keeps_locked c.in_ok-files.field-0.snapshot c.pool_of-pool.result c.in_ok-files.ensures.index c.pool_of-pool.ensures.index c.pool_of-pool.ensures.kept, subst (λ e. SomeDoneTo c.args.is_all_or_none e c.pool_of-pool.result c.in_ok-files.field-0.session c.done_to_the_end.new.session) c.in-Save.is c.in_ok-end.ensures.done,
-    subst (λ e. IfSome (g.I.Read.remaining c.args.input) (λ bytes. AnsweredTo c.args.is_all_or_none e c.pool_of-pool.result (commands_of bytes) c.in_ok-files.field-0.session c.done_to_the_end.new.session (g.O.Write.contents c.args.call.now.output) (g.O.Write.contents c.done_to_the_end.new.output))) c.in-Save.is c.in_ok-end.ensures.answered))
+    is_answering g.F.Folder.held g.F.Folder.may_leave g.F.Folder.moment g.F.Folder.left_since g.F.Folder.faults (IsRepairOf (g.F.HistoryFolder.may_fail c.args.folder.now)) AreInPlace is_save (BatchIsDone (g.G.HandedFiles.handed c.args.handed.now) c.args.options.index.now c.args.is_all_or_none c.args.options.keeps_locked (g.I.Read.remaining c.args.input) (g.O.Write.contents c.args.call.now.output) (g.O.Write.contents c.done_to_the_end.new.output)) c.in_ok-files.field-0.files c.done_to_the_end.new.session Save (
+      c.in_ok-files.field-0.session,
+      c.in_ok-files.ensures.stand,
+      (
+        c.pool_of-pool.result,
+        pool-for (g.G.HandedFiles.handed c.args.handed.now) c.args.options.index.now c.args.options.keeps_locked c.in_ok-files.field-0.snapshot c.pool_of-pool.result c.in_ok-files.ensures.index c.pool_of-pool.ensures.index c.pool_of-pool.ensures.kept,
+        subst (λ e. SomeDoneTo c.args.is_all_or_none e c.pool_of-pool.result c.in_ok-files.field-0.session c.done_to_the_end.new.session) c.in-Save.is c.in_ok-end.ensures.done,
+        subst (λ e. IfSome (g.I.Read.remaining c.args.input) (λ bytes. AnsweredTo c.args.is_all_or_none e c.pool_of-pool.result (commands_of bytes) c.in_ok-files.field-0.session c.done_to_the_end.new.session (g.O.Write.contents c.args.call.now.output) (g.O.Write.contents c.done_to_the_end.new.output))) c.in-Save.is c.in_ok-end.ensures.answered,
+      ),
+    )
     c.args.folder.now c.history_to_save.new.folder c.rewrite.new.folder c.history_to_save.ensures.repaired c.in_ok-files.ensures.places
     (was_being_saved g.F.Folder.held g.F.Folder.may_leave g.F.Folder.moment g.F.Folder.left_since g.F.Folder.faults true c.in_ok-files.field-0.files c.done_to_the_end.new.session refl c.history_to_save.new.folder c.rewrite.new.folder c.rewrite.ensures.any_moment)
 
@@ -84,17 +91,31 @@ returns-in_err-rewrite-in-Save-clause-nothing_saved g c =
 
 pub returns-in-Save-clause-called : goal.returns-in-Save-clause-called
 returns-in-Save-clause-called g c =
-    answers g.F.Folder.held g.F.Folder.may_leave g.F.Folder.moment g.F.Folder.left_since g.F.Folder.faults (IsRepairOf (g.F.HistoryFolder.may_fail c.args.folder.now)) AreInPlace is_save (BatchIsDone (g.G.HandedFiles.handed c.args.handed.now) c.args.options.index.now c.args.is_all_or_none c.args.options.keeps_locked (g.I.Read.remaining c.args.input) (g.O.Write.contents c.args.call.now.output) (g.O.Write.contents c.done_to_the_end.new.output)) c.in_ok-files.field-0.files c.done_to_the_end.new.session Save
-    (c.in_ok-files.field-0.session, c.in_ok-files.ensures.stand, (c.pool_of-pool.result, pool-for (g.G.HandedFiles.handed c.args.handed.now) c.args.options.index.now c.args.options.keeps_locked c.in_ok-files.field-0.snapshot c.pool_of-pool.result c.in_ok-files.ensures.index c.pool_of-pool.ensures.index c.pool_of-pool.ensures.kept, subst (λ e. SomeDoneTo c.args.is_all_or_none e c.pool_of-pool.result c.in_ok-files.field-0.session c.done_to_the_end.new.session) c.in-Save.is c.in_ok-end.ensures.done,
-    subst (λ e. IfSome (g.I.Read.remaining c.args.input) (λ bytes. AnsweredTo c.args.is_all_or_none e c.pool_of-pool.result (commands_of bytes) c.in_ok-files.field-0.session c.done_to_the_end.new.session (g.O.Write.contents c.args.call.now.output) (g.O.Write.contents c.done_to_the_end.new.output))) c.in-Save.is c.in_ok-end.ensures.answered))
+    answers g.F.Folder.held g.F.Folder.may_leave g.F.Folder.moment g.F.Folder.left_since g.F.Folder.faults (IsRepairOf (g.F.HistoryFolder.may_fail c.args.folder.now)) AreInPlace is_save (BatchIsDone (g.G.HandedFiles.handed c.args.handed.now) c.args.options.index.now c.args.is_all_or_none c.args.options.keeps_locked (g.I.Read.remaining c.args.input) (g.O.Write.contents c.args.call.now.output) (g.O.Write.contents c.done_to_the_end.new.output)) c.in_ok-files.field-0.files c.done_to_the_end.new.session Save (
+      c.in_ok-files.field-0.session,
+      c.in_ok-files.ensures.stand,
+      (
+        c.pool_of-pool.result,
+        pool-for (g.G.HandedFiles.handed c.args.handed.now) c.args.options.index.now c.args.options.keeps_locked c.in_ok-files.field-0.snapshot c.pool_of-pool.result c.in_ok-files.ensures.index c.pool_of-pool.ensures.index c.pool_of-pool.ensures.kept,
+        subst (λ e. SomeDoneTo c.args.is_all_or_none e c.pool_of-pool.result c.in_ok-files.field-0.session c.done_to_the_end.new.session) c.in-Save.is c.in_ok-end.ensures.done,
+        subst (λ e. IfSome (g.I.Read.remaining c.args.input) (λ bytes. AnsweredTo c.args.is_all_or_none e c.pool_of-pool.result (commands_of bytes) c.in_ok-files.field-0.session c.done_to_the_end.new.session (g.O.Write.contents c.args.call.now.output) (g.O.Write.contents c.done_to_the_end.new.output))) c.in-Save.is c.in_ok-end.ensures.answered,
+      ),
+    )
     (λ end. ⊤) tt c.args.folder.now c.history_to_save.new.folder c.rewrite.new.folder c.history_to_save.ensures.repaired c.in_ok-files.ensures.places
     (was_saved g.F.Folder.held g.F.Folder.may_leave g.F.Folder.moment g.F.Folder.left_since g.F.Folder.faults true c.in_ok-files.field-0.files c.done_to_the_end.new.session refl c.history_to_save.new.folder c.rewrite.new.folder c.in_ok-rewrite-in-Save.ensures.saved)
 
 pub returns-in-Save-clause-any_moment : goal.returns-in-Save-clause-any_moment
 returns-in-Save-clause-any_moment g c =
-    is_answering g.F.Folder.held g.F.Folder.may_leave g.F.Folder.moment g.F.Folder.left_since g.F.Folder.faults (IsRepairOf (g.F.HistoryFolder.may_fail c.args.folder.now)) AreInPlace is_save (BatchIsDone (g.G.HandedFiles.handed c.args.handed.now) c.args.options.index.now c.args.is_all_or_none c.args.options.keeps_locked (g.I.Read.remaining c.args.input) (g.O.Write.contents c.args.call.now.output) (g.O.Write.contents c.done_to_the_end.new.output)) c.in_ok-files.field-0.files c.done_to_the_end.new.session Save
-    (c.in_ok-files.field-0.session, c.in_ok-files.ensures.stand, (c.pool_of-pool.result, pool-for (g.G.HandedFiles.handed c.args.handed.now) c.args.options.index.now c.args.options.keeps_locked c.in_ok-files.field-0.snapshot c.pool_of-pool.result c.in_ok-files.ensures.index c.pool_of-pool.ensures.index c.pool_of-pool.ensures.kept, subst (λ e. SomeDoneTo c.args.is_all_or_none e c.pool_of-pool.result c.in_ok-files.field-0.session c.done_to_the_end.new.session) c.in-Save.is c.in_ok-end.ensures.done,
-    subst (λ e. IfSome (g.I.Read.remaining c.args.input) (λ bytes. AnsweredTo c.args.is_all_or_none e c.pool_of-pool.result (commands_of bytes) c.in_ok-files.field-0.session c.done_to_the_end.new.session (g.O.Write.contents c.args.call.now.output) (g.O.Write.contents c.done_to_the_end.new.output))) c.in-Save.is c.in_ok-end.ensures.answered))
+    is_answering g.F.Folder.held g.F.Folder.may_leave g.F.Folder.moment g.F.Folder.left_since g.F.Folder.faults (IsRepairOf (g.F.HistoryFolder.may_fail c.args.folder.now)) AreInPlace is_save (BatchIsDone (g.G.HandedFiles.handed c.args.handed.now) c.args.options.index.now c.args.is_all_or_none c.args.options.keeps_locked (g.I.Read.remaining c.args.input) (g.O.Write.contents c.args.call.now.output) (g.O.Write.contents c.done_to_the_end.new.output)) c.in_ok-files.field-0.files c.done_to_the_end.new.session Save (
+      c.in_ok-files.field-0.session,
+      c.in_ok-files.ensures.stand,
+      (
+        c.pool_of-pool.result,
+        pool-for (g.G.HandedFiles.handed c.args.handed.now) c.args.options.index.now c.args.options.keeps_locked c.in_ok-files.field-0.snapshot c.pool_of-pool.result c.in_ok-files.ensures.index c.pool_of-pool.ensures.index c.pool_of-pool.ensures.kept,
+        subst (λ e. SomeDoneTo c.args.is_all_or_none e c.pool_of-pool.result c.in_ok-files.field-0.session c.done_to_the_end.new.session) c.in-Save.is c.in_ok-end.ensures.done,
+        subst (λ e. IfSome (g.I.Read.remaining c.args.input) (λ bytes. AnsweredTo c.args.is_all_or_none e c.pool_of-pool.result (commands_of bytes) c.in_ok-files.field-0.session c.done_to_the_end.new.session (g.O.Write.contents c.args.call.now.output) (g.O.Write.contents c.done_to_the_end.new.output))) c.in-Save.is c.in_ok-end.ensures.answered,
+      ),
+    )
     c.args.folder.now c.history_to_save.new.folder c.rewrite.new.folder c.history_to_save.ensures.repaired c.in_ok-files.ensures.places
     (was_being_saved g.F.Folder.held g.F.Folder.may_leave g.F.Folder.moment g.F.Folder.left_since g.F.Folder.faults true c.in_ok-files.field-0.files c.done_to_the_end.new.session refl c.history_to_save.new.folder c.rewrite.new.folder c.rewrite.ensures.any_moment)
 
@@ -103,9 +124,16 @@ returns-in-Save-clause-nothing_saved g c = tt
 
 pub returns-in-Leave-clause-called : goal.returns-in-Leave-clause-called
 returns-in-Leave-clause-called g c =
-    answers g.F.Folder.held g.F.Folder.may_leave g.F.Folder.moment g.F.Folder.left_since g.F.Folder.faults (IsRepairOf (g.F.HistoryFolder.may_fail c.args.folder.now)) AreInPlace is_save (BatchIsDone (g.G.HandedFiles.handed c.args.handed.now) c.args.options.index.now c.args.is_all_or_none c.args.options.keeps_locked (g.I.Read.remaining c.args.input) (g.O.Write.contents c.args.call.now.output) (g.O.Write.contents c.done_to_the_end.new.output)) c.in_ok-files.field-0.files c.done_to_the_end.new.session Leave
-    (c.in_ok-files.field-0.session, c.in_ok-files.ensures.stand, (c.pool_of-pool.result, pool-for (g.G.HandedFiles.handed c.args.handed.now) c.args.options.index.now c.args.options.keeps_locked c.in_ok-files.field-0.snapshot c.pool_of-pool.result c.in_ok-files.ensures.index c.pool_of-pool.ensures.index c.pool_of-pool.ensures.kept, subst (λ e. SomeDoneTo c.args.is_all_or_none e c.pool_of-pool.result c.in_ok-files.field-0.session c.done_to_the_end.new.session) c.in-Leave.is c.in_ok-end.ensures.done,
-    subst (λ e. IfSome (g.I.Read.remaining c.args.input) (λ bytes. AnsweredTo c.args.is_all_or_none e c.pool_of-pool.result (commands_of bytes) c.in_ok-files.field-0.session c.done_to_the_end.new.session (g.O.Write.contents c.args.call.now.output) (g.O.Write.contents c.done_to_the_end.new.output))) c.in-Leave.is c.in_ok-end.ensures.answered))
+    answers g.F.Folder.held g.F.Folder.may_leave g.F.Folder.moment g.F.Folder.left_since g.F.Folder.faults (IsRepairOf (g.F.HistoryFolder.may_fail c.args.folder.now)) AreInPlace is_save (BatchIsDone (g.G.HandedFiles.handed c.args.handed.now) c.args.options.index.now c.args.is_all_or_none c.args.options.keeps_locked (g.I.Read.remaining c.args.input) (g.O.Write.contents c.args.call.now.output) (g.O.Write.contents c.done_to_the_end.new.output)) c.in_ok-files.field-0.files c.done_to_the_end.new.session Leave (
+      c.in_ok-files.field-0.session,
+      c.in_ok-files.ensures.stand,
+      (
+        c.pool_of-pool.result,
+        pool-for (g.G.HandedFiles.handed c.args.handed.now) c.args.options.index.now c.args.options.keeps_locked c.in_ok-files.field-0.snapshot c.pool_of-pool.result c.in_ok-files.ensures.index c.pool_of-pool.ensures.index c.pool_of-pool.ensures.kept,
+        subst (λ e. SomeDoneTo c.args.is_all_or_none e c.pool_of-pool.result c.in_ok-files.field-0.session c.done_to_the_end.new.session) c.in-Leave.is c.in_ok-end.ensures.done,
+        subst (λ e. IfSome (g.I.Read.remaining c.args.input) (λ bytes. AnsweredTo c.args.is_all_or_none e c.pool_of-pool.result (commands_of bytes) c.in_ok-files.field-0.session c.done_to_the_end.new.session (g.O.Write.contents c.args.call.now.output) (g.O.Write.contents c.done_to_the_end.new.output))) c.in-Leave.is c.in_ok-end.ensures.answered,
+      ),
+    )
     (λ end. ⊤) tt c.args.folder.now c.history_to_save.new.folder c.history_to_save.new.folder c.history_to_save.ensures.repaired c.in_ok-files.ensures.places
     (was_left g.F.Folder.held g.F.Folder.may_leave g.F.Folder.moment g.F.Folder.left_since g.F.Folder.faults false c.in_ok-files.field-0.files c.done_to_the_end.new.session refl c.history_to_save.new.folder (λ d left. g.met.F.Folder.only_now c.history_to_save.new.folder d left))
 
