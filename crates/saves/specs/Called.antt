@@ -1,9 +1,8 @@
 -- What a call that saves leaves in its folder. All of it is reqlock's own rule.
-use Rattle.std.specs.Prelude.{◌≡◌, ◌⊎◌, ℕ, Bool, true, false, List, [], Option, IfSome, Ok}
+use Rattle.std.specs.Prelude.{◌≡◌, ◌⊎◌, ℕ, Bool, true, false, List, [], Option, Ok}
 use Rattle.command_line.specs.declared.invocation.AskedEdit.{AskedEdit}
 use Rattle.command_line.specs.declared.invocation.Beginning.{Beginning}
-use Rattle.commands.specs.BatchLine.{commands_of}
-use Rattle.commands.specs.Runs.{AnsweredTo, SomeDoneTo}
+use Rattle.commands.specs.Runs.{SomeDoneTo}
 use Rattle.commands.specs.declared.batch_end.BatchEnd.{BatchEnd}
 use Rattle.commands.specs.declared.batch_end.BatchEnd.TheVariants.{Save, Leave, Refuse}
 use Rattle.commands.specs.declared.batch.StreamFault.TheVariants as streams
@@ -50,12 +49,10 @@ EditIsDone handed asked index targets keeps_locked only_if_needed files after re
 abbrev pub ForgetIsDone : Beginning → SavedFiles → HistoryParts → Reply → Type 0
 ForgetIsDone beginning files after reply = (before : HistoryParts) × StandFor files before × IsShortened beginning before after reply
 
--- `batch`: commands and their replies, and whether one of these is `ok`; of an input that is known its commands, whose replies are written
-abbrev pub BatchIsDone : Handed → List ℕ → Bool → Bool → Option (List ℕ) → Option (List ℕ) → Option (List ℕ) → SavedFiles → HistoryParts → BatchEnd → Type 0
-BatchIsDone handed index is_all_or_none keeps_locked input printed prints files after end =
-    (before : HistoryParts) × StandFor files before
-    × ((pool : Pool) × IsPoolFor handed index keeps_locked pool × SomeDoneTo is_all_or_none end pool before after
-    × IfSome input (λ bytes. AnsweredTo is_all_or_none end pool (commands_of bytes) before after printed prints))
+-- `batch`: commands and their replies, and whether one of these is `ok`
+abbrev pub BatchIsDone : Handed → List ℕ → Bool → Bool → SavedFiles → HistoryParts → BatchEnd → Type 0
+BatchIsDone handed index is_all_or_none keeps_locked files after end =
+    (before : HistoryParts) × StandFor files before × ((pool : Pool) × IsPoolFor handed index keeps_locked pool × SomeDoneTo is_all_or_none end pool before after)
 
 -- `init`: the lines of the requirements file are locked over the index at a path for the targets at these paths, with what is handed in for them
 abbrev pub InitIsDone : Handed → List ℕ → List (NamedPath (List ℕ)) → List (NamedPath (List ℕ)) → SavedFiles → HistoryParts → Reply → Type 0

@@ -1,9 +1,8 @@
 // What `batch` and `try` do.
 
 ghost use Rattle.std.specs.Bool.{⊤};
-ghost use Rattle.std.specs.Prelude.{◌⊎◌, IfErr, IfOk, IfSome, OnOk};
-ghost use Rattle.commands.specs.BatchLine.{commands_of};
-ghost use Rattle.commands.specs.Runs.{AnsweredTo, SomeDoneTo};
+ghost use Rattle.std.specs.Prelude.{◌⊎◌, IfErr, IfOk, OnOk};
+ghost use Rattle.commands.specs.Runs.{SomeDoneTo};
 ghost use Rattle.files.specs.Repair.{IsRepairOf};
 ghost use Rattle.files.specs.Places.{AreInPlace};
 ghost use Rattle.folder.specs.Calls.{IsSettled, Ran};
@@ -45,15 +44,13 @@ pub fn run_batch<R: AllocGlobal, F: HistoryFolder, G: HandedFiles, I: Read + Dro
     ensures called { OnOk result (Called F.held F.may_leave F.moment F.left_since F.faults
         (IsRepairOf (F.may_fail folder.old)) AreInPlace is_save
         (BatchIsDone (G.handed handed.now) options.entry.index.now is_all_or_none
-        options.entry.keeps_locked (I.remaining input)
-        (O.contents call.old.output) (O.contents call.new.output))
+        options.entry.keeps_locked)
         (λ end. ⊤)
         folder.old folder.new) }
     ensures any_moment { AtAnyMoment F.held F.may_leave F.moment F.left_since F.faults
         (IsRepairOf (F.may_fail folder.old)) AreInPlace is_save
         (BatchIsDone (G.handed handed.now) options.entry.index.now is_all_or_none
-        options.entry.keeps_locked (I.remaining input)
-        (O.contents call.old.output) (O.contents call.new.output))
+        options.entry.keeps_locked)
         folder.old folder.new }
     ensures nothing_saved { IfErr result (λ stop. IsFaultOfSaving stop
         ⊎ Ran F.held F.may_leave F.moment F.left_since F.faults
@@ -122,11 +119,8 @@ fn done_to_the_end<I: Read + Drop, O: Write>(
     pool: &Pool<'_>,
     is_all_or_none: bool,
 ) -> Result<BatchEnd, Stop>
-    ensures done { IfOk result
+    ensures { IfOk result
         (λ end. SomeDoneTo is_all_or_none end pool.now session.old session.new) }
-    ensures answered { IfOk result (λ end. IfSome (I.remaining input) (λ bytes.
-        AnsweredTo is_all_or_none end pool.now (commands_of bytes) session.old session.new
-        (O.contents output.old) (O.contents output.new))) }
 {
     let mut source = Counted::new(input);
     let mut sink = Counted::new(output);

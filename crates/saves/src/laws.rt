@@ -1,6 +1,6 @@
 //! What follows of the definitions.
 
-ghost use Rattle.std.specs.Prelude.{ℕ, Bool, List, Option};
+ghost use Rattle.std.specs.Prelude.{ℕ, Bool, List};
 ghost use Rattle.calls.specs.AskedEdits.{IsHistoryFor, MayGiveWay};
 ghost use Rattle.command_line.specs.declared.invocation.AskedEdit.{AskedEdit};
 ghost use Rattle.command_line.specs.declared.invocation.Beginning.{Beginning};
@@ -25,9 +25,7 @@ pub fn a_stopped_call_leaves_the_old_or_the_new()
     ensures forget { (beginning : Beginning)
         → LeavesOldOrNew is_accepted (ForgetIsDone beginning) }
     ensures batch { (handed : Handed) (index : List ℕ) (is_all_or_none keeps : Bool)
-        (input printed prints : Option (List ℕ))
-        → LeavesOldOrNew is_save
-        (BatchIsDone handed index is_all_or_none keeps input printed prints) }
+        → LeavesOldOrNew is_save (BatchIsDone handed index is_all_or_none keeps) }
     ensures init { (handed : Handed) (index : List ℕ) (targets pins : List (NamedPath (List ℕ)))
         → LeavesOldJournalOrNew is_accepted (InitIsDone handed index targets pins) }
     ensures any_edit { (handed : Handed) (asked : AskedEdit) (index : List ℕ)

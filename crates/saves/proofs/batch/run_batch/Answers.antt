@@ -1,9 +1,7 @@
 use Rattle.std.proofs.Common.{false, inl, inr, refl, subst, sym, true}
 use Rattle.std.specs.Bool.{⊤}
-use Rattle.std.specs.Prelude.{IfSome}
 use Rattle.calls.proofs.Pools.{pool-for}
-use Rattle.commands.specs.BatchLine.{commands_of}
-use Rattle.commands.specs.Runs.{AnsweredTo, SomeDoneTo}
+use Rattle.commands.specs.Runs.{SomeDoneTo}
 use Rattle.commands.specs.declared.batch_end.BatchEnd.TheVariants.{Leave, Save}
 use Rattle.files.specs.Places.{AreInPlace, AreKnown, bytes_read}
 use Rattle.files.specs.Repair.{IsRepairOf}
@@ -71,14 +69,13 @@ returns-in_err-rewrite-in-Save-clause-called g c = not_ok c.from_residual-in_err
 
 pub returns-in_err-rewrite-in-Save-clause-any_moment : goal.returns-in_err-rewrite-in-Save-clause-any_moment
 returns-in_err-rewrite-in-Save-clause-any_moment g c =
-    is_answering g.F.Folder.held g.F.Folder.may_leave g.F.Folder.moment g.F.Folder.left_since g.F.Folder.faults (IsRepairOf (g.F.HistoryFolder.may_fail c.args.folder.now)) AreInPlace is_save (BatchIsDone (g.G.HandedFiles.handed c.args.handed.now) c.args.options.index.now c.args.is_all_or_none c.args.options.keeps_locked (g.I.Read.remaining c.args.input) (g.O.Write.contents c.args.call.now.output) (g.O.Write.contents c.done_to_the_end.new.output)) c.in_ok-files.field-0.files c.done_to_the_end.new.session Save (
+    is_answering g.F.Folder.held g.F.Folder.may_leave g.F.Folder.moment g.F.Folder.left_since g.F.Folder.faults (IsRepairOf (g.F.HistoryFolder.may_fail c.args.folder.now)) AreInPlace is_save (BatchIsDone (g.G.HandedFiles.handed c.args.handed.now) c.args.options.index.now c.args.is_all_or_none c.args.options.keeps_locked) c.in_ok-files.field-0.files c.done_to_the_end.new.session Save (
       c.in_ok-files.field-0.session,
       c.in_ok-files.ensures.stand,
       (
         c.pool_of-pool.result,
         pool-for (g.G.HandedFiles.handed c.args.handed.now) c.args.options.index.now c.args.options.keeps_locked c.in_ok-files.field-0.snapshot c.pool_of-pool.result c.in_ok-files.ensures.index c.pool_of-pool.ensures.index c.pool_of-pool.ensures.kept,
-        subst (λ e. SomeDoneTo c.args.is_all_or_none e c.pool_of-pool.result c.in_ok-files.field-0.session c.done_to_the_end.new.session) c.in-Save.is c.in_ok-end.ensures.done,
-        subst (λ e. IfSome (g.I.Read.remaining c.args.input) (λ bytes. AnsweredTo c.args.is_all_or_none e c.pool_of-pool.result (commands_of bytes) c.in_ok-files.field-0.session c.done_to_the_end.new.session (g.O.Write.contents c.args.call.now.output) (g.O.Write.contents c.done_to_the_end.new.output))) c.in-Save.is c.in_ok-end.ensures.answered,
+        subst (λ e. SomeDoneTo c.args.is_all_or_none e c.pool_of-pool.result c.in_ok-files.field-0.session c.done_to_the_end.new.session) c.in-Save.is c.in_ok-end.ensures,
       ),
     )
     c.args.folder.now c.history_to_save.new.folder c.rewrite.new.folder c.history_to_save.ensures.repaired c.in_ok-files.ensures.places
@@ -91,14 +88,13 @@ returns-in_err-rewrite-in-Save-clause-nothing_saved g c =
 
 pub returns-in-Save-clause-called : goal.returns-in-Save-clause-called
 returns-in-Save-clause-called g c =
-    answers g.F.Folder.held g.F.Folder.may_leave g.F.Folder.moment g.F.Folder.left_since g.F.Folder.faults (IsRepairOf (g.F.HistoryFolder.may_fail c.args.folder.now)) AreInPlace is_save (BatchIsDone (g.G.HandedFiles.handed c.args.handed.now) c.args.options.index.now c.args.is_all_or_none c.args.options.keeps_locked (g.I.Read.remaining c.args.input) (g.O.Write.contents c.args.call.now.output) (g.O.Write.contents c.done_to_the_end.new.output)) c.in_ok-files.field-0.files c.done_to_the_end.new.session Save (
+    answers g.F.Folder.held g.F.Folder.may_leave g.F.Folder.moment g.F.Folder.left_since g.F.Folder.faults (IsRepairOf (g.F.HistoryFolder.may_fail c.args.folder.now)) AreInPlace is_save (BatchIsDone (g.G.HandedFiles.handed c.args.handed.now) c.args.options.index.now c.args.is_all_or_none c.args.options.keeps_locked) c.in_ok-files.field-0.files c.done_to_the_end.new.session Save (
       c.in_ok-files.field-0.session,
       c.in_ok-files.ensures.stand,
       (
         c.pool_of-pool.result,
         pool-for (g.G.HandedFiles.handed c.args.handed.now) c.args.options.index.now c.args.options.keeps_locked c.in_ok-files.field-0.snapshot c.pool_of-pool.result c.in_ok-files.ensures.index c.pool_of-pool.ensures.index c.pool_of-pool.ensures.kept,
-        subst (λ e. SomeDoneTo c.args.is_all_or_none e c.pool_of-pool.result c.in_ok-files.field-0.session c.done_to_the_end.new.session) c.in-Save.is c.in_ok-end.ensures.done,
-        subst (λ e. IfSome (g.I.Read.remaining c.args.input) (λ bytes. AnsweredTo c.args.is_all_or_none e c.pool_of-pool.result (commands_of bytes) c.in_ok-files.field-0.session c.done_to_the_end.new.session (g.O.Write.contents c.args.call.now.output) (g.O.Write.contents c.done_to_the_end.new.output))) c.in-Save.is c.in_ok-end.ensures.answered,
+        subst (λ e. SomeDoneTo c.args.is_all_or_none e c.pool_of-pool.result c.in_ok-files.field-0.session c.done_to_the_end.new.session) c.in-Save.is c.in_ok-end.ensures,
       ),
     )
     (λ end. ⊤) tt c.args.folder.now c.history_to_save.new.folder c.rewrite.new.folder c.history_to_save.ensures.repaired c.in_ok-files.ensures.places
@@ -106,14 +102,13 @@ returns-in-Save-clause-called g c =
 
 pub returns-in-Save-clause-any_moment : goal.returns-in-Save-clause-any_moment
 returns-in-Save-clause-any_moment g c =
-    is_answering g.F.Folder.held g.F.Folder.may_leave g.F.Folder.moment g.F.Folder.left_since g.F.Folder.faults (IsRepairOf (g.F.HistoryFolder.may_fail c.args.folder.now)) AreInPlace is_save (BatchIsDone (g.G.HandedFiles.handed c.args.handed.now) c.args.options.index.now c.args.is_all_or_none c.args.options.keeps_locked (g.I.Read.remaining c.args.input) (g.O.Write.contents c.args.call.now.output) (g.O.Write.contents c.done_to_the_end.new.output)) c.in_ok-files.field-0.files c.done_to_the_end.new.session Save (
+    is_answering g.F.Folder.held g.F.Folder.may_leave g.F.Folder.moment g.F.Folder.left_since g.F.Folder.faults (IsRepairOf (g.F.HistoryFolder.may_fail c.args.folder.now)) AreInPlace is_save (BatchIsDone (g.G.HandedFiles.handed c.args.handed.now) c.args.options.index.now c.args.is_all_or_none c.args.options.keeps_locked) c.in_ok-files.field-0.files c.done_to_the_end.new.session Save (
       c.in_ok-files.field-0.session,
       c.in_ok-files.ensures.stand,
       (
         c.pool_of-pool.result,
         pool-for (g.G.HandedFiles.handed c.args.handed.now) c.args.options.index.now c.args.options.keeps_locked c.in_ok-files.field-0.snapshot c.pool_of-pool.result c.in_ok-files.ensures.index c.pool_of-pool.ensures.index c.pool_of-pool.ensures.kept,
-        subst (λ e. SomeDoneTo c.args.is_all_or_none e c.pool_of-pool.result c.in_ok-files.field-0.session c.done_to_the_end.new.session) c.in-Save.is c.in_ok-end.ensures.done,
-        subst (λ e. IfSome (g.I.Read.remaining c.args.input) (λ bytes. AnsweredTo c.args.is_all_or_none e c.pool_of-pool.result (commands_of bytes) c.in_ok-files.field-0.session c.done_to_the_end.new.session (g.O.Write.contents c.args.call.now.output) (g.O.Write.contents c.done_to_the_end.new.output))) c.in-Save.is c.in_ok-end.ensures.answered,
+        subst (λ e. SomeDoneTo c.args.is_all_or_none e c.pool_of-pool.result c.in_ok-files.field-0.session c.done_to_the_end.new.session) c.in-Save.is c.in_ok-end.ensures,
       ),
     )
     c.args.folder.now c.history_to_save.new.folder c.rewrite.new.folder c.history_to_save.ensures.repaired c.in_ok-files.ensures.places
@@ -124,14 +119,13 @@ returns-in-Save-clause-nothing_saved g c = tt
 
 pub returns-in-Leave-clause-called : goal.returns-in-Leave-clause-called
 returns-in-Leave-clause-called g c =
-    answers g.F.Folder.held g.F.Folder.may_leave g.F.Folder.moment g.F.Folder.left_since g.F.Folder.faults (IsRepairOf (g.F.HistoryFolder.may_fail c.args.folder.now)) AreInPlace is_save (BatchIsDone (g.G.HandedFiles.handed c.args.handed.now) c.args.options.index.now c.args.is_all_or_none c.args.options.keeps_locked (g.I.Read.remaining c.args.input) (g.O.Write.contents c.args.call.now.output) (g.O.Write.contents c.done_to_the_end.new.output)) c.in_ok-files.field-0.files c.done_to_the_end.new.session Leave (
+    answers g.F.Folder.held g.F.Folder.may_leave g.F.Folder.moment g.F.Folder.left_since g.F.Folder.faults (IsRepairOf (g.F.HistoryFolder.may_fail c.args.folder.now)) AreInPlace is_save (BatchIsDone (g.G.HandedFiles.handed c.args.handed.now) c.args.options.index.now c.args.is_all_or_none c.args.options.keeps_locked) c.in_ok-files.field-0.files c.done_to_the_end.new.session Leave (
       c.in_ok-files.field-0.session,
       c.in_ok-files.ensures.stand,
       (
         c.pool_of-pool.result,
         pool-for (g.G.HandedFiles.handed c.args.handed.now) c.args.options.index.now c.args.options.keeps_locked c.in_ok-files.field-0.snapshot c.pool_of-pool.result c.in_ok-files.ensures.index c.pool_of-pool.ensures.index c.pool_of-pool.ensures.kept,
-        subst (λ e. SomeDoneTo c.args.is_all_or_none e c.pool_of-pool.result c.in_ok-files.field-0.session c.done_to_the_end.new.session) c.in-Leave.is c.in_ok-end.ensures.done,
-        subst (λ e. IfSome (g.I.Read.remaining c.args.input) (λ bytes. AnsweredTo c.args.is_all_or_none e c.pool_of-pool.result (commands_of bytes) c.in_ok-files.field-0.session c.done_to_the_end.new.session (g.O.Write.contents c.args.call.now.output) (g.O.Write.contents c.done_to_the_end.new.output))) c.in-Leave.is c.in_ok-end.ensures.answered,
+        subst (λ e. SomeDoneTo c.args.is_all_or_none e c.pool_of-pool.result c.in_ok-files.field-0.session c.done_to_the_end.new.session) c.in-Leave.is c.in_ok-end.ensures,
       ),
     )
     (λ end. ⊤) tt c.args.folder.now c.history_to_save.new.folder c.history_to_save.new.folder c.history_to_save.ensures.repaired c.in_ok-files.ensures.places

@@ -15,8 +15,8 @@ pub returns-clause-forget : goal.returns-clause-forget
 returns-clause-forget c beginning = stopped-call c.files_stand_for_one_history.ensures.law is_accepted (ForgetIsDone beginning) (λ files after answer done. (done.0, done.1))
 
 pub returns-clause-batch : goal.returns-clause-batch
-returns-clause-batch c handed index is_all_or_none keeps input printed prints =
-    stopped-call c.files_stand_for_one_history.ensures.law is_save (BatchIsDone handed index is_all_or_none keeps input printed prints) (λ files after answer done. (done.0, done.1))
+returns-clause-batch c handed index is_all_or_none keeps =
+    stopped-call c.files_stand_for_one_history.ensures.law is_save (BatchIsDone handed index is_all_or_none keeps) (λ files after answer done. (done.0, done.1))
 
 pub returns-clause-init : goal.returns-clause-init
 returns-clause-init c handed index targets pins = stopped-first c.files_stand_for_one_history.ensures.law is_accepted (InitIsDone handed index targets pins)
