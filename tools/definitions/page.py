@@ -33,17 +33,6 @@ PROMISES: tuple[tuple[str, str, tuple[tuple[str, str, str], ...]], ...] = (
         ),
     ),
     (
-        "A call that reads says what is so",
-        "`rehearse_edit`, `rehearse_step` and `rehearse_forget` of `saves`, `print_check`, `print_diff` and `answer_why` of `views`",
-        (
-            ("saves", "Rehearsed", "IsRehearsed"),
-            ("views", "Checked", "IsChecked"),
-            ("views", "Checked", "IsFoundStale"),
-            ("views", "Differences", "IsDifferenceTold"),
-            ("views", "Why", "IsAsked"),
-        ),
-    ),
-    (
         "A refutation is accepted exactly where it is one",
         "`check` of `refutations`, `check_sets` of `set_refutations`",
         (("search", "Conflicts", "IsRefutation"), ("search", "SetConflicts", "IsSetRefutation")),
